@@ -1,0 +1,33 @@
+//! Shared types and limits, and what a program's run is made of.
+#![tactic(auto)]
+
+mod act;
+mod bytes;
+mod call;
+mod ending;
+mod fault;
+mod frames;
+mod hart;
+mod image;
+mod inst;
+pub mod limits;
+mod memory_want;
+mod name;
+mod point;
+mod points;
+mod record;
+
+pub use act::{Act, Write};
+pub use bytes::Bytes;
+pub use call::{Facts, Reply, Request};
+pub use ending::Ending;
+pub use fault::{Fault, FaultName};
+pub use frames::Frames;
+pub use hart::{Frame, Hart, HartState, Reserved, Slot, Waiter};
+pub use image::{Cell, Image, Load, Loads, Rights, Span};
+pub use inst::{Inst, Op};
+pub use memory_want::MemoryWant;
+pub use name::Name;
+pub use point::{Kind, Point, PointRef, Ret};
+pub use points::Points;
+pub use record::{Record, Way};
