@@ -1,2 +1,6 @@
+pub mod Arithmetic
+pub mod Effects
+pub mod Instructions
 pub mod Names
 pub mod Points
+pub mod Word

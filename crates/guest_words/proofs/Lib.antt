@@ -1,0 +1,4 @@
+pub mod EffectsShown
+pub mod Listing
+pub mod TableShown
+pub mod WordsShown
