@@ -1,6 +1,15 @@
+pub mod Act
 pub mod Arithmetic
+pub mod CallChanges
+pub mod Calls
 pub mod Effects
+pub mod Endings
+pub mod HartAct
+pub mod Harts
 pub mod Instructions
 pub mod Names
 pub mod Points
+pub mod Space
+pub mod Start
+pub mod State
 pub mod Word
