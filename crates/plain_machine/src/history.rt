@@ -1,0 +1,105 @@
+ghost use Rattle.std.specs.Prelude.{◌≡◌, ◌+◌, ◌<◌, ◌≤◌, [], ◌∷◌, ◌++◌, length, OnErr, OnOk};
+ghost use Rattle.plain_machine.specs.Ends.{CanLengthen, longer, EndsInRan, lengthened};
+
+use crate::entry::Entry;
+use guest_words::MemoryWant;
+use sqlite_items::Items;
+use std::marker::Model;
+
+/// What has happened in a run, the oldest entry first, with room for more.
+#[derive(Drop)]
+pub struct History {
+    entries: Vec<Entry>,
+}
+
+impl Model for History {
+    ghost use Rattle.std.specs.Prelude.{◌-◌, vec_len, vec_capacity};
+    ghost use Rattle.plain_machine.specs.Past.{Past};
+    ghost use Rattle.std.specs.Coded.{codes};
+    ghost use Rattle.plain_machine.specs.contracts.entry.Entry as e;
+
+    ghost Value = { Past };
+
+    ghost coded = { Prim.hlevel (codes, e.the_row.coded) };
+
+    ghost view = { λ h. record { entries = h.entries.items; spare = vec_capacity h.entries - vec_len h.entries } };
+}
+
+impl History {
+    /// The history of the entries of the `Vec`, which is kept as it is.
+    pub fn of(entries: Vec<Entry>) -> History
+        ensures list { result.entries ≡ entries.items }
+    {
+        History { entries }
+    }
+
+    /// The entries, the oldest first.
+    pub fn items(&self) -> &[Entry]
+        ensures list { result.now ≡ self.now.entries }
+    {
+        self.entries.as_slice()
+    }
+
+    /// Makes room for so many further entries.
+    pub fn reserve(&mut self, entries: usize) -> Result<(), MemoryWant>
+        ensures same { self.new.entries ≡ self.old.entries }
+        ensures ok { OnOk result (entries ≤ self.new.spare) }
+    {
+        self.entries.reserve(entries)?;
+        Ok(())
+    }
+
+    /// Puts an entry last.
+    pub fn push(&mut self, entry: Entry)
+        requires room { 0 < self.old.spare }
+        ensures entries { self.new.entries ≡ self.old.entries ++ entry ∷ [] }
+        ensures room { self.new.spare + 1 ≡ self.old.spare }
+    {
+        self.entries.push_reserved(entry)
+    }
+
+    /// Makes the count of the last entry one more.
+    pub fn lengthen(&mut self)
+        requires last { EndsInRan self.old.entries }
+        ensures entries { self.new.entries ≡ lengthened self.old.entries }
+        ensures room { self.new.spare ≡ self.old.spare }
+    {
+        match self.entries.pop() {
+            Some(last) => self.entries.push_reserved(longer(last)),
+            None => {}
+        }
+    }
+
+    /// Puts these entries behind those of another history.
+    pub fn join_onto(self, outer: &mut History)
+        requires room { length self.entries ≤ outer.old.spare }
+        ensures entries { outer.new.entries ≡ outer.old.entries ++ self.entries }
+        ensures room { outer.old.spare ≤ outer.new.spare + length self.entries }
+    {
+        let History { mut entries } = self;
+        match outer.entries.append(&mut entries) {
+            Ok(()) => {}
+            Err(_) => unreachable!(),
+        }
+    }
+
+    /// The entries, as the inside of a rescued call.
+    pub fn into_inside(self) -> Items<Entry>
+        ensures list { result ≡ self.entries }
+    {
+        Items::from_vec(self.entries)
+    }
+}
+
+fn longer(entry: Entry) -> Entry
+    requires ran { CanLengthen entry }
+    ensures value { result ≡ longer entry }
+{
+    match entry {
+        Entry::Ran { hart, count } => Entry::Ran {
+            hart,
+            count: count + 1,
+        },
+        other => other,
+    }
+}
