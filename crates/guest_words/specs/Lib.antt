@@ -1,2 +1,6 @@
+pub mod ElfFault
+pub mod ElfFields
+pub mod Image
 pub mod Names
 pub mod Points
+pub mod Rules

@@ -4,6 +4,7 @@
 mod act;
 mod bytes;
 mod call;
+mod elf_fault;
 mod ending;
 mod fault;
 mod frames;
@@ -20,6 +21,7 @@ mod record;
 pub use act::{Act, Write};
 pub use bytes::Bytes;
 pub use call::{Facts, Reply, Request};
+pub use elf_fault::ElfFault;
 pub use ending::Ending;
 pub use fault::{Fault, FaultName};
 pub use frames::Frames;

@@ -1,0 +1,3 @@
+pub mod ImageCases
+pub mod ImageLaws
+pub mod RuleLaws
