@@ -1,3 +1,4 @@
 pub mod ImageCases
 pub mod ImageLaws
+pub mod PageLaws
 pub mod RuleLaws
