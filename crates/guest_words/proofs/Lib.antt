@@ -1,7 +1,11 @@
 pub mod ClosingShown
 pub mod EffectsShown
 pub mod FaultsShown
+pub mod ImageCases
+pub mod ImageLaws
 pub mod Listing
+pub mod PageLaws
+pub mod RuleLaws
 pub mod StartMemory
 pub mod TableShown
 pub mod WordsShown

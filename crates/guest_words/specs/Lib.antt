@@ -3,12 +3,16 @@ pub mod Arithmetic
 pub mod CallChanges
 pub mod Calls
 pub mod Effects
+pub mod ElfFault
+pub mod ElfFields
 pub mod Endings
 pub mod HartAct
 pub mod Harts
+pub mod Image
 pub mod Instructions
 pub mod Names
 pub mod Points
+pub mod Rules
 pub mod Space
 pub mod Start
 pub mod State

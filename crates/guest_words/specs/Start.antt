@@ -10,14 +10,14 @@ use Rattle.guest_words.specs.declared.point.Point.{Point}
 use Rattle.guest_words.specs.declared.hart.Hart.{Hart}
 use Rattle.guest_words.specs.declared.hart.HartState.TheVariants.{Ready, Empty}
 use Rattle.guest_words.specs.declared.hart.Slot.{Slot}
+use Rattle.guest_words.specs.declared.limits.TheConstants.{PAGE}
+use Rattle.guest_words.specs.Image.{pages_of, contains}
 use Rattle.guest_words.specs.Space.{Space}
 use Rattle.guest_words.specs.State.{State}
 
 -- an address lies in a page of a load
 abbrev pub is_in_pages : ℕ → Load → Bool
-is_in_pages address load =
-    nat_le (load.address / 4096) (address / 4096)
-    && nat_lt address ((load.address + load.size + 4095) / 4096 * 4096)
+is_in_pages address load = contains (pages_of load) (address / PAGE)
 
 -- an address is that of a byte which a load brings from the file
 abbrev pub is_in_bytes : ℕ → Load → Bool
