@@ -1,7 +1,6 @@
 -- Frames close where a call is over, and else stay.
-use Rattle.std.proofs.Common.{◌≡◌, ℕ, List, [], ◌∷◌, refl, replicate, slice_set, Some, None, true, false}
+use Rattle.std.proofs.Common.{◌≡◌, ℕ, [], ◌∷◌, refl, replicate, slice_set}
 use Rattle.guest_words.specs.declared.point.Ret.TheVariants.{Code}
-use Rattle.guest_words.specs.declared.point.PointRef.{PointRef}
 use Rattle.guest_words.specs.declared.hart.Hart.{Hart}
 use Rattle.guest_words.specs.declared.hart.Frame.{Frame}
 use Rattle.guest_words.specs.Harts.{close_frames}

@@ -1,16 +1,14 @@
 -- The fault of a hart where two causes meet: the earlier one of the order.
-use Rattle.std.proofs.Common.{◌≡◌, ℕ, ◌%◌, ◌==◌, ◌&&◌, not, nat_lt, Bool, true, false, if◌then◌else◌, refl, ap, ◌∙◌, List, length, Some, None, Option}
+use Rattle.std.proofs.Common.{◌≡◌, ◌%◌, ◌==◌, ◌&&◌, not, nat_lt, true, false, if◌then◌else◌, refl, ap, ◌∙◌, List, Some, None}
 use Rattle.guest_words.specs.declared.point.Point.{Point}
 use Rattle.guest_words.specs.declared.point.PointRef.{PointRef}
-use Rattle.guest_words.specs.declared.fault.FaultName.TheVariants.{FetchRights, FetchMisaligned, Illegal, LoadRights, StoreRights, AtomicMisaligned}
+use Rattle.guest_words.specs.declared.fault.FaultName.TheVariants.{FetchRights, FetchMisaligned, StoreRights, AtomicMisaligned}
 use Rattle.guest_words.specs.declared.hart.Hart.{Hart}
 use Rattle.guest_words.specs.declared.inst.Inst.{Inst}
-use Rattle.guest_words.specs.declared.act.Act.{Act}
-use Rattle.guest_words.specs.declared.act.Act.TheVariants.{Next, Fault, Arrived}
+use Rattle.guest_words.specs.declared.act.Act.TheVariants.{Fault, Arrived}
 use Rattle.guest_words.specs.Points.{active_at}
-use Rattle.guest_words.specs.Space.{Space, can_read, can_write, can_execute, number_at}
+use Rattle.guest_words.specs.Space.{Space, can_write, can_execute, number_at}
 use Rattle.guest_words.specs.Instructions.{instruction_of}
-use Rattle.guest_words.specs.Harts.{holds}
 use Rattle.guest_words.specs.HartAct.{hart_act, fetched_act, arrived_or, act_of_inst, jump_to, reserve_act, conditional_act, atomic_act}
 
 -- an arrival comes before every fault of the fetch

@@ -5,6 +5,7 @@ pub mod ImageCases
 pub mod ImageLaws
 pub mod Listing
 pub mod PageLaws
+pub mod PointLists
 pub mod RuleLaws
 pub mod StartMemory
 pub mod TableShown

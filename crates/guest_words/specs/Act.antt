@@ -1,9 +1,9 @@
 -- The act of a hart in a state, and the record that fits a request to a device.
-use Rattle.std.specs.Prelude.{ℕ, ◌+◌, ℤ, pos, negsuc, Bool, true, false, ◌&&◌, ◌||◌, ◌==◌, nat_le, List, [], ◌∷◌, length, Option, Some, None, nat_eq, slice_get}
+use Rattle.std.specs.Prelude.{ℕ, ℤ, pos, negsuc, Bool, true, false, ◌&&◌, ◌||◌, ◌==◌, nat_le, length, Option, Some, None, nat_eq, slice_get}
 use Rattle.std.specs.Cmp.Lexicographic.{pointwise}
 use Rattle.guest_words.specs.declared.point.PointRef.{PointRef}
 use Rattle.guest_words.specs.declared.fault.FaultName.{FaultName}
-use Rattle.guest_words.specs.declared.fault.FaultName.TheVariants.{BlockedInPoint, Illegal}
+use Rattle.guest_words.specs.declared.fault.FaultName.TheVariants.{BlockedInPoint}
 use Rattle.guest_words.specs.declared.hart.Slot.{Slot}
 use Rattle.guest_words.specs.declared.record.Record.{Record}
 use Rattle.guest_words.specs.declared.record.Way.{Way}

@@ -1,8 +1,7 @@
 -- What the reply to a call depends on in a state, and how a call changes the state.
-use Rattle.std.specs.Prelude.{ℕ, zero, suc, ◌+◌, ◌%◌, ◌^◌, ℤ, pos, Bool, true, false, not, ◌&&◌, ◌||◌, ◌==◌, nat_lt, if◌then◌else◌, List, [], ◌∷◌, ◌++◌, length, take, drop, min, Option, Some, None, slice_get, slice_set}
+use Rattle.std.specs.Prelude.{ℕ, zero, suc, ◌+◌, ℤ, pos, Bool, false, not, ◌&&◌, ◌||◌, ◌==◌, nat_lt, if◌then◌else◌, List, [], ◌∷◌, ◌++◌, length, take, drop, Option, Some, None, slice_get, slice_set}
 use Rattle.std.specs.List.{filter, list_any, list_all}
 use Rattle.guest_words.specs.declared.hart.Hart.{Hart}
-use Rattle.guest_words.specs.declared.hart.HartState.{HartState}
 use Rattle.guest_words.specs.declared.hart.HartState.TheVariants.{Ready, Waiting, Gone}
 use Rattle.guest_words.specs.declared.hart.Slot.{Slot}
 use Rattle.guest_words.specs.declared.hart.Waiter.{Waiter}
@@ -11,7 +10,7 @@ use Rattle.guest_words.specs.declared.call.Request.TheVariants as request
 use Rattle.guest_words.specs.declared.call.Facts.{Facts}
 use Rattle.guest_words.specs.Word.{word_of}
 use Rattle.guest_words.specs.Space.{can_read, can_write, number_at, low_bytes}
-use Rattle.guest_words.specs.Harts.{reg, with_reg, past, is_ready, is_waiting, is_free}
+use Rattle.guest_words.specs.Harts.{with_reg, past, is_ready, is_waiting, is_free}
 use Rattle.guest_words.specs.Calls.{cut, sets_tls, sets_parent_tid, clears_child_tid}
 use Rattle.guest_words.specs.State.{State, changed, on_hart, with_hart, stored, frames_at, is_open}
 

@@ -1,6 +1,6 @@
 -- Calls: the request of a hart, and its reply. Call numbers and error numbers are those of Linux
 -- for RISC-V; the number is in x17, arguments are in x10 to x15. The rules are this project's own.
-use Rattle.std.specs.Prelude.{ℕ, ◌+◌, ◌-◌, ◌%◌, ◌^◌, ℤ, pos, negsuc, Bool, true, false, not, ◌&&◌, ◌||◌, ◌==◌, nat_lt, if◌then◌else◌, min, Option, Some, None, bit_and, bit_or}
+use Rattle.std.specs.Prelude.{ℕ, ◌%◌, ◌^◌, ℤ, pos, negsuc, Bool, not, ◌&&◌, ◌||◌, ◌==◌, if◌then◌else◌, min, Option, Some, None, bit_and, bit_or}
 use Rattle.guest_words.specs.declared.hart.Hart.{Hart}
 use Rattle.guest_words.specs.declared.call.Request.{Request}
 use Rattle.guest_words.specs.declared.call.Request.TheVariants.{Read, Write, Close, Exit, ExitGroup, Wait, Wake, Clone, Yield, Tid, Unknown}

@@ -9,7 +9,7 @@ use Rattle.guest_words.specs.declared.ending.Ending.TheVariants as ending
 use Rattle.guest_words.specs.declared.hart.Slot.{Slot}
 use Rattle.guest_words.specs.Harts.{is_ready}
 use Rattle.guest_words.specs.State.{State, frames_at}
-use Rattle.guest_words.specs.Act.{StateAct, Ordinary, Fault, Request, Arrival, End, Absent, act_of}
+use Rattle.guest_words.specs.Act.{StateAct, Fault, End, act_of}
 
 -- the bytes of all records
 abbrev pub record_bytes : State → ℕ

@@ -1,11 +1,9 @@
 -- The act of one hart: an instruction, by ISA manual chapters RV64I, M and A, or a call.
-use Rattle.std.specs.Prelude.{ℕ, ◌+◌, ◌%◌, ◌^◌, Bool, true, false, not, ◌&&◌, ◌==◌, nat_lt, if◌then◌else◌, List, length, Option, Some, None}
+use Rattle.std.specs.Prelude.{ℕ, ◌+◌, ◌%◌, ◌^◌, true, not, ◌&&◌, ◌==◌, nat_lt, if◌then◌else◌, List, Option, Some, None}
 use Rattle.guest_words.specs.declared.point.Point.{Point}
 use Rattle.guest_words.specs.declared.point.PointRef.{PointRef}
-use Rattle.guest_words.specs.declared.fault.FaultName.{FaultName}
 use Rattle.guest_words.specs.declared.fault.FaultName.TheVariants.{FetchRights, FetchMisaligned, Illegal, LoadRights, StoreRights, AtomicMisaligned, Breakpoint}
 use Rattle.guest_words.specs.declared.hart.Hart.{Hart}
-use Rattle.guest_words.specs.declared.hart.Reserved.{Reserved}
 use Rattle.guest_words.specs.declared.inst.Inst.{Inst}
 use Rattle.guest_words.specs.declared.class.Class.{Class}
 use Rattle.guest_words.specs.declared.class.Class.TheVariants as class

@@ -1,6 +1,6 @@
 -- Harts: registers, reservations, and the frames of rescue points.
 -- Registers: ISA manual, RV64I, 'Programmers' Model'; reservations: 'A' extension.
-use Rattle.std.specs.Prelude.{ℕ, ◌+◌, ◌%◌, ◌^◌, Bool, true, false, ◌&&◌, ◌||◌, ◌==◌, nat_lt, if◌then◌else◌, List, [], ◌∷◌, ◌++◌, map, length, Option, Some, None, slice_index, slice_set}
+use Rattle.std.specs.Prelude.{ℕ, ◌+◌, ◌%◌, ◌^◌, Bool, true, false, ◌&&◌, ◌||◌, ◌==◌, nat_lt, if◌then◌else◌, List, [], ◌∷◌, ◌++◌, Option, Some, None, slice_index, slice_set}
 use Rattle.guest_words.specs.declared.point.Ret.{Ret}
 use Rattle.guest_words.specs.declared.point.Ret.TheVariants.{Code, Void}
 use Rattle.guest_words.specs.declared.point.PointRef.{PointRef}

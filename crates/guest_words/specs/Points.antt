@@ -1,5 +1,5 @@
 -- Rescue points: which are active, what they return, and the list of them.
-use Rattle.std.specs.Prelude.{◌≡◌, ℕ, ◌≤◌, ◌==◌, Bool, true, false, ◌&&◌, List, length, Option, Some, None, find, option_map, ◌≢◌}
+use Rattle.std.specs.Prelude.{ℕ, ◌≤◌, ◌==◌, Bool, true, false, ◌&&◌, List, length, Option, find, option_map, ◌≢◌}
 use Rattle.std.specs.List.{AllPairs}
 use Rattle.guest_words.specs.declared.point.Ret.{Ret}
 use Rattle.guest_words.specs.declared.point.Kind.{Kind}

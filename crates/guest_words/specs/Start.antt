@@ -1,8 +1,6 @@
 -- The start of a run: memory, the first hart, and the empty slots.
-use Rattle.std.specs.Prelude.{ℕ, zero, suc, ◌+◌, ◌-◌, ◌*◌, ◌/◌, Bool, true, false, ◌&&◌, ◌||◌, nat_lt, nat_le, if◌then◌else◌, List, [], ◌∷◌, length, Option, Some, None, slice_index, slice_set, replicate, find}
-use Rattle.std.specs.Ordering.{nat_cmp}
+use Rattle.std.specs.Prelude.{ℕ, zero, suc, ◌+◌, ◌-◌, ◌/◌, Bool, true, false, ◌&&◌, nat_lt, nat_le, if◌then◌else◌, List, [], ◌∷◌, length, Option, Some, None, slice_index, slice_set, replicate, find}
 use Rattle.std.specs.FinMap as map
-use Rattle.guest_words.specs.declared.image.Rights.{Rights}
 use Rattle.guest_words.specs.declared.image.Cell.{Cell}
 use Rattle.guest_words.specs.declared.image.Load.{Load}
 use Rattle.guest_words.specs.declared.image.Image.{Image}

@@ -1,5 +1,7 @@
-ghost use Rattle.std.specs.Prelude.{◌≡◌};
+ghost use Rattle.std.specs.Prelude.{◌≡◌, IfOk};
 
+use crate::memory_want::MemoryWant;
+use std::alloc::Global;
 use std::marker::Model;
 
 /// A list of bytes.
@@ -36,5 +38,14 @@ impl Bytes {
         ensures list { result.items ≡ self }
     {
         self.items
+    }
+
+    /// An equal list.
+    pub fn copy(&self, alloc: Global) -> Result<Bytes, MemoryWant>
+        ensures ok { IfOk result (λ bytes. bytes ≡ self.now) }
+    {
+        Ok(Bytes {
+            items: self.items.as_slice().to_vec(alloc)?,
+        })
     }
 }

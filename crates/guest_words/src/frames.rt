@@ -1,6 +1,8 @@
-ghost use Rattle.std.specs.Prelude.{◌≡◌, ◌≤◌, length};
+ghost use Rattle.std.specs.Prelude.{◌≡◌, [], ◌∷◌, ◌++◌, take, IfOk, OnOk, OnErr};
 
 use crate::hart::Frame;
+use crate::memory_want::MemoryWant;
+use std::alloc::Global;
 use std::marker::Model;
 
 /// The open frames of a hart, the innermost last.
@@ -10,7 +12,7 @@ pub struct Frames {
 }
 
 impl Model for Frames {
-    ghost use Rattle.std.specs.Prelude.{List, length, ◌≤◌};
+    ghost use Rattle.std.specs.Prelude.{List};
     ghost use Rattle.guest_words.specs.declared.hart.Frame.{Frame};
 
     ghost Value = { List Frame };
@@ -31,5 +33,39 @@ impl Frames {
         ensures list { result.now ≡ self.now }
     {
         self.items.as_slice()
+    }
+
+    /// No frames. Takes no memory.
+    pub fn new(alloc: Global) -> Frames
+        ensures none { result ≡ [] }
+    {
+        Frames {
+            items: Vec::new(alloc),
+        }
+    }
+
+    /// Puts a frame inside all others.
+    pub fn push(&mut self, frame: Frame) -> Result<(), MemoryWant>
+        ensures ok { OnOk result (self.new ≡ self.old ++ frame ∷ []) }
+        ensures err { OnErr result (self.new ≡ self.old) }
+    {
+        self.items.push(frame)?;
+        Ok(())
+    }
+
+    /// Keeps so many of the outermost frames. Takes no memory.
+    pub fn truncate(&mut self, count: usize)
+        ensures value { self.new ≡ take count self.old }
+    {
+        self.items.truncate(count);
+    }
+
+    /// An equal list.
+    pub fn copy(&self, alloc: Global) -> Result<Frames, MemoryWant>
+        ensures ok { IfOk result (λ frames. frames ≡ self.now) }
+    {
+        Ok(Frames {
+            items: self.items.as_slice().to_vec(alloc)?,
+        })
     }
 }

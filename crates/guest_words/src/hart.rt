@@ -1,5 +1,9 @@
+ghost use Rattle.std.specs.Prelude.{◌≡◌, IfOk};
+
 use crate::frames::Frames;
+use crate::memory_want::MemoryWant;
 use crate::point::PointRef;
+use std::alloc::Global;
 
 /// Whether a hart may go on.
 #[derive(Clone, Copy, Debug, PartialEq, Eq)]
@@ -49,6 +53,18 @@ pub struct Frame {
 pub struct Slot {
     pub hart: Hart,
     pub frames: Frames,
+}
+
+impl Slot {
+    /// An equal slot.
+    pub fn copy(&self, alloc: Global) -> Result<Slot, MemoryWant>
+        ensures ok { IfOk result (λ slot. slot ≡ self.now) }
+    {
+        Ok(Slot {
+            hart: self.hart,
+            frames: self.frames.copy(alloc)?,
+        })
+    }
 }
 
 /// A hart that waits at a guest address.

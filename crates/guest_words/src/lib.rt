@@ -19,6 +19,8 @@ mod name;
 mod point;
 mod points;
 mod record;
+#[cfg(test)]
+mod tests;
 
 pub use act::{Act, Write};
 pub use bytes::Bytes;

@@ -1,7 +1,9 @@
-ghost use Rattle.std.specs.Prelude.{◌≡◌};
+ghost use Rattle.std.specs.Prelude.{◌≡◌, IfOk};
 ghost use Rattle.guest_words.specs.Points.{active_at, IsPointList};
 
+use crate::memory_want::MemoryWant;
 use crate::point::{Point, PointRef};
+use std::alloc::Global;
 use std::marker::Model;
 
 /// The points of a rescue file: at most 256, no two at one entry.
@@ -47,5 +49,14 @@ impl Points {
             .iter()
             .find(|p| p.is_active() && p.entry == pc)
             .map(|p| p.reference())
+    }
+
+    /// An equal list.
+    pub fn copy(&self, alloc: Global) -> Result<Points, MemoryWant>
+        ensures ok { IfOk result (λ points. points ≡ self.now) }
+    {
+        Ok(Points {
+            items: self.items.as_slice().to_vec(alloc)?,
+        })
     }
 }

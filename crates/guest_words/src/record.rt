@@ -1,4 +1,8 @@
+ghost use Rattle.std.specs.Prelude.{◌≡◌, IfOk};
+
 use crate::bytes::Bytes;
+use crate::memory_want::MemoryWant;
+use std::alloc::Global;
 
 /// What a call asked of a device.
 #[derive(Clone, Copy, Debug, PartialEq, Eq)]
@@ -20,4 +24,19 @@ pub struct Record {
     pub answer: i64,
     /// The bytes that were read or written.
     pub bytes: Bytes,
+}
+
+impl Record {
+    /// An equal record.
+    pub fn copy(&self, alloc: Global) -> Result<Record, MemoryWant>
+        ensures ok { IfOk result (λ copy. copy ≡ self.now) }
+    {
+        Ok(Record {
+            port: self.port,
+            way: self.way,
+            asked: self.asked,
+            answer: self.answer,
+            bytes: self.bytes.copy(alloc)?,
+        })
+    }
 }
