@@ -1,2 +1,7 @@
 pub mod Ends
+pub mod Fetches
 pub mod Insides
+pub mod RefusedRescues
+mod RescueShown
+pub mod RunSteps
+mod RunsShown

@@ -1,0 +1,10 @@
+//! Calls of a guest, pure: what a hart asks for, and what the answer is.
+#![tactic(auto)]
+
+mod errors;
+mod flags;
+mod replies;
+mod requests;
+
+pub use replies::answer;
+pub use requests::ask;
