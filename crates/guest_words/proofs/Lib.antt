@@ -4,7 +4,9 @@ pub mod FaultsShown
 pub mod ImageCases
 pub mod ImageLaws
 pub mod Listing
+pub mod OneRow
 pub mod PageLaws
+pub mod Registers
 pub mod RuleLaws
 pub mod StartMemory
 pub mod TableShown
