@@ -4,8 +4,10 @@ pub mod FaultsShown
 pub mod ImageCases
 pub mod ImageLaws
 pub mod Listing
+pub mod OneRow
 pub mod PageLaws
 pub mod PointLists
+pub mod Registers
 pub mod RuleLaws
 pub mod StartMemory
 pub mod TableShown

@@ -1,6 +1,6 @@
 -- The instructions of RV64IMA: their formats and their table (ISA manual, unprivileged, "Base
 -- Instruction Formats", "Immediate Encoding Variants" and "RV32/64G Instruction Set Listings").
-use Rattle.std.specs.Prelude.{ℕ, ◌+◌, ◌-◌, ◌*◌, ◌/◌, ◌%◌, ◌^◌, ◌==◌, Bool, ℤ, pos, List, [], ◌∷◌, Option, find}
+use Rattle.std.specs.Prelude.{ℕ, ◌+◌, ◌-◌, ◌*◌, ◌/◌, ◌%◌, ◌^◌, ◌<◌, ◌==◌, Bool, ℤ, pos, List, [], ◌∷◌, Option, find}
 use Rattle.std.specs.Option.{option_map}
 use Rattle.std.specs.List.{list_all}
 use Rattle.guest_words.specs.Word.{sign_extended}
@@ -48,6 +48,16 @@ rs2_of Register w = bits 24 20 w
 rs2_of Store w = bits 24 20 w
 rs2_of Branch w = bits 24 20 w
 rs2_of _ w = 0
+
+-- the instruction that a word is in a format
+abbrev pub read : Format → Op → ℕ → Inst
+read format op w = record {
+  op = op;
+  rd = rd_of format w;
+  rs1 = rs1_of format w;
+  rs2 = rs2_of format w;
+  imm = immediate_of format w;
+}
 
 -- ---- the rows
 
@@ -180,16 +190,12 @@ table =
 unfoldable pub row_of : ℕ → Option Row
 row_of w = find (fits w) table
 
--- the instruction of a row's word
-abbrev pub read : ℕ → Row → Inst
-read w r = record {
-  op = r.op;
-  rd = rd_of r.format w;
-  rs1 = rs1_of r.format w;
-  rs2 = rs2_of r.format w;
-  imm = immediate_of r.format w;
-}
-
 -- the instruction of the one row that a word fits, and none where no row fits
 unfoldable pub instruction_of : ℕ → Option Inst
-instruction_of w = option_map (read w) (row_of w)
+instruction_of w = option_map (λ r. read r.format r.op w) (row_of w)
+
+-- the registers of an instruction are among the 32
+pub record NamesRegisters (inst : Inst) : Type 0 where
+  pub rd : inst.rd < 32
+  pub rs1 : inst.rs1 < 32
+  pub rs2 : inst.rs2 < 32

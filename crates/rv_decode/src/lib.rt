@@ -1,0 +1,8 @@
+//! Words to instructions.
+#![tactic(auto)]
+
+mod decoder;
+mod formats;
+mod rows;
+
+pub use decoder::decode;

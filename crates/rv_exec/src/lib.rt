@@ -1,0 +1,8 @@
+//! What instructions make of register values: results, conditions and targets.
+#![tactic(auto)]
+
+mod branches;
+mod results;
+
+pub use branches::{branch_taken, target};
+pub use results::alu;
