@@ -5,6 +5,8 @@ mod errors;
 mod flags;
 mod replies;
 mod requests;
+#[cfg(test)]
+mod tests;
 
 pub use replies::answer;
 pub use requests::ask;

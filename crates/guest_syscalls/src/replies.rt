@@ -1,8 +1,9 @@
 ghost use Rattle.std.specs.Prelude.{◌≡◌};
-ghost use Rattle.guest_words.specs.Calls.{reply_of, reply_of_close, reply_of_read, reply_of_write, reply_of_exit, reply_of_wait, reply_of_wake, reply_of_clone, cut};
+ghost use Rattle.guest_words.specs.Calls.{reply_of, reply_of_close, reply_of_transfer, reply_of_exit, reply_of_wait, reply_of_wake, reply_of_clone, cut};
 
 use crate::errors::{BAD_ADDRESS, BAD_DESCRIPTOR, INVALID, NO_SUCH_CALL, TRY_AGAIN};
 use crate::flags::makes_hart;
+use guest_words::limits::TRANSFER;
 use guest_words::{Facts, Reply, Request};
 
 /// What a call does, by the facts of the state that it is made in. Takes no memory.
@@ -11,8 +12,8 @@ pub fn answer(request: &Request, facts: &Facts) -> Reply
     ensures value { result ≡ reply_of request.now facts.now }
 {
     match *request {
-        Request::Read { size, .. } => read(size, facts),
-        Request::Write { size, .. } => write(size, facts),
+        Request::Read { size, .. } => transfer(size, facts.usable, facts.writable),
+        Request::Write { size, .. } => transfer(size, facts.usable, facts.readable),
         Request::Close { .. } => close(facts),
         Request::Exit { code } => exit(code, facts),
         Request::ExitGroup { code } => Reply::End {
@@ -45,31 +46,17 @@ fn close(facts: &Facts) -> Reply
 fn cut(size: u64) -> u32
     ensures value { result ≡ cut size }
 {
-    size.min(65_536) as u32
+    size.min(TRANSFER) as u32
 }
 
-fn read(size: u64, facts: &Facts) -> Reply
-    ensures value { result ≡ reply_of_read size facts.now }
+fn transfer(size: u64, usable: bool, reached: bool) -> Reply
+    ensures value { result ≡ reply_of_transfer size usable reached }
 {
-    if !facts.usable {
+    if !usable {
         Reply::Value(BAD_DESCRIPTOR)
     } else if size == 0 {
         Reply::Value(0)
-    } else if !facts.writable {
-        Reply::Value(BAD_ADDRESS)
-    } else {
-        Reply::Port { asked: cut(size) }
-    }
-}
-
-fn write(size: u64, facts: &Facts) -> Reply
-    ensures value { result ≡ reply_of_write size facts.now }
-{
-    if !facts.usable {
-        Reply::Value(BAD_DESCRIPTOR)
-    } else if size == 0 {
-        Reply::Value(0)
-    } else if !facts.readable {
+    } else if !reached {
         Reply::Value(BAD_ADDRESS)
     } else {
         Reply::Port { asked: cut(size) }

@@ -89,19 +89,13 @@ makes_hart flags = are_known flags && shares_memory flags && is_thread flags
 abbrev pub reply_of_close : Facts → Reply
 reply_of_close facts = if facts.usable then Port 0 else Value ebadf
 
-abbrev pub reply_of_read : ℕ → Facts → Reply
-reply_of_read size facts =
-    if not facts.usable then Value ebadf
-    else if size == 0 then Value (pos 0)
-    else if not facts.writable then Value efault
-    else Port (cut size)
-
-abbrev pub reply_of_write : ℕ → Facts → Reply
-reply_of_write size facts =
-    if not facts.usable then Value ebadf
-    else if size == 0 then Value (pos 0)
-    else if not facts.readable then Value efault
-    else Port (cut size)
+-- a read or a write, by whether its descriptor is usable and its range is reached
+abbrev pub reply_of_transfer : ℕ → Bool → Bool → Reply
+reply_of_transfer size usable reached =
+    if not usable then Value ebadf
+    else (if size == 0 then Value (pos 0)
+    else (if not reached then Value efault
+    else Port (cut size)))
 
 abbrev pub reply_of_exit : ℕ → Facts → Reply
 reply_of_exit code facts = if facts.other_live then Gone else End (code % 256)
@@ -128,8 +122,8 @@ reply_of_clone flags facts = if makes_hart flags then child_in facts.free_slot e
 
 -- the reply to each call, its rules in order
 unfoldable pub reply_of : Request → Facts → Reply
-reply_of (Read fd place size) facts = reply_of_read size facts
-reply_of (Write fd place size) facts = reply_of_write size facts
+reply_of (Read fd place size) facts = reply_of_transfer size facts.usable facts.writable
+reply_of (Write fd place size) facts = reply_of_transfer size facts.usable facts.readable
 reply_of (Close fd) facts = reply_of_close facts
 reply_of (Exit code) facts = reply_of_exit code facts
 reply_of (ExitGroup code) facts = End (code % 256)

@@ -78,7 +78,7 @@ pub rescue_without_a_licence : (h : ℕ) (point : PointRef) (fault : FaultAt) (i
 rescue_without_a_licence h point fault inside s absent =
     legal-Rescued h point fault inside s
     ∙ and-right_false (may_act s h && is_arrival point (seen s h)) (is_licensed s h point fault inside)
-      (and-right_false (legal_inside inside h (frames_at s h) (enter h point s)) _ absent)
+    (and-right_false (legal_inside inside h (frames_at s h) (enter h point s)) _ absent)
 
 -- and so is one that doesn't begin at an arrival at its point
 pub rescue_without_an_arrival : (h : ℕ) (point : PointRef) (fault : FaultAt) (inside : List Entry) (s : State)

@@ -72,7 +72,7 @@ state_with hart frames steps =
       ending = None;
       points = points;
       ports = 0;
-      budget = 5000000
+      budget = 5000000;
     }
 
 abbrev frame : Frame

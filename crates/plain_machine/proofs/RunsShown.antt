@@ -57,7 +57,7 @@ state_with hart steps =
       ending = None;
       points = [];
       ports = 0;
-      budget = 5000000
+      budget = 5000000;
     }
 
 abbrev h0 : Hart
@@ -158,7 +158,7 @@ can_run_two : can_run 2 0 (state_with h0 0) ≡ true
 unfolding can_run
 can_run_two =
     can_run-ordinary (state_with h0 0) (state_with h1 0) 0 1 refl refl (seen0 0)
-      (can_run-ordinary (state_with h1 1) (state_with h2 1) 0 0 refl refl (seen1 1) refl)
+    (can_run-ordinary (state_with h1 1) (state_with h2 1) 0 0 refl refl (seen1 1) refl)
 
 -- the history of the smallest program: two instructions, and an exit with 7
 pub smallest_program-is_a_run : IsRun (state_with h0 0) (Ran 0 2 ∷ Ended (Exit 0 7) ∷ [])

@@ -3,6 +3,8 @@
 
 mod closing;
 mod opening;
+#[cfg(test)]
+mod tests;
 
 pub use closing::closed_after;
 pub use opening::opened;
