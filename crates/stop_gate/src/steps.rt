@@ -1,0 +1,58 @@
+//! The kinds of step, and what each tells the pass that makes it.
+ghost use Rattle.stop_gate.specs.Steps.{Enters, Leaves, Raises, Seizes, Lowers, Takes, Gives, with_less, another};
+
+use crate::held::Held;
+use crate::view::View;
+use atomic_table::{Play, Split};
+
+pub(crate) struct Enter;
+
+impl<C: Held> Play<Option<C>, View<C::Origin>> for Enter {
+    ghost then = { Enters C.length C.over C.origin };
+}
+
+/// Of a pass that goes back, too.
+pub(crate) struct Leave;
+
+impl<C: Held> Play<Option<C>, View<C::Origin>> for Leave {
+    ghost then = { Leaves C.length C.over C.origin };
+}
+
+pub(crate) struct Raise;
+
+impl<C: Held> Play<Option<C>, View<C::Origin>> for Raise {
+    ghost then = { Raises C.length C.over C.origin };
+}
+
+pub(crate) struct Seize;
+
+impl<C: Held> Play<Option<C>, View<C::Origin>> for Seize {
+    ghost then = { Seizes C.length C.over C.origin };
+}
+
+pub(crate) struct Lower;
+
+impl<C: Held> Play<Option<C>, View<C::Origin>> for Lower {
+    ghost then = { Lowers C.length C.over C.origin };
+}
+
+pub(crate) struct Take;
+
+impl<C: Held> Play<Option<C>, View<C::Origin>> for Take {
+    ghost then = { Takes C.length C.over C.origin };
+}
+
+pub(crate) struct Give;
+
+impl<C: Held> Play<Option<C>, View<C::Origin>> for Give {
+    ghost then = { Gives C.length C.over C.origin };
+}
+
+/// A pass with spare makes another.
+pub(crate) struct Another;
+
+impl<O> Split<View<O>> for Another {
+    ghost left = { with_less };
+
+    ghost right = { another };
+}
