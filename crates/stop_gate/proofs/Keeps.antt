@@ -1,24 +1,25 @@
 -- How a step keeps the rule: what it owes where it is on GATE, where it makes a pass, and at the start.
-use Rattle.std.proofs.Common.{◌≡◌, ℕ, zero, suc, ◌+◌, ◌*◌, ◌/◌, ◌%◌, ◌^◌, ◌<◌, ◌≤◌, Bool, true, false, IsTrue, List, [], ◌∷◌, length, get_or, set, sym, refl, ap, ◌∙◌, subst, arith, length-set, length-append, get_or-set_same, ⊎_elim, Option, Some}
+use Rattle.std.proofs.Common.{◌≡◌, ℕ, zero, suc, ◌+◌, ◌-◌, ◌*◌, ◌/◌, ◌%◌, ◌^◌, ◌<◌, ◌≤◌, Bool, true, false, IsTrue, List, [], ◌∷◌, length, get_or, set, sym, refl, ap, ◌∙◌, subst, arith, length-set, length-append, get_or-set_same, ⊎_elim, Option, Some}
 use Rattle.std.proofs.lemmas.List.{get_or-set_other}
 use Rattle.std.proofs.lemmas.List.Sums.{sum_by_push}
 use mathlib.Core.Option.{some, some-injective, some-ne-none}
 use lib.ListN.{get_elem?}
 use Rattle.atomic_table.specs.Table.{State, Act, keeps, stepped, Splits, opening}
 use Rattle.atomic_table.proofs.Lists.{at_set, at_snoc}
+use Rattle.stop_gate.specs.declared.held.Held.{Ghosts as Held}
 use Rattle.stop_gate.specs.declared.view.View.{View}
 use Rattle.stop_gate.specs.declared.view.Place.{Place}
 use Rattle.stop_gate.specs.declared.view.Place.TheVariants.{Out}
 use Rattle.stop_gate.specs.Words.{length_in, over_bit}
 use Rattle.stop_gate.specs.Places.{is_counted, is_stopping, is_inside, is_alone, has_turn, count_at, spares}
 use Rattle.stop_gate.specs.GateRule.{Knows, AtHome, GateRule}
-use Rattle.stop_gate.specs.Steps.{StepOn, moved, with_less, another, first_view}
+use Rattle.stop_gate.specs.Steps.{StepOn, moved, with_less, another, new_view}
 use Rattle.stop_gate.proofs.Sums.{sum_by-set}
 use Rattle.stop_gate.proofs.PlaceFacts.{weight, weighs, counted_few}
 
-module _ {C O : Type 0} (length_of : C → ℕ) (is_over : C → Bool) (origin_of : C → O) (of : O) where
+module _ {C O : Type 0} (held : Held C O) (of : O) where
   abbrev Rule : State (Option C) (View O) → Type 0
-  Rule = GateRule length_of is_over origin_of of
+  Rule = GateRule held of
 
   -- no more passes count than there can be
   pub few : (s : State (Option C) (View O)) → Rule s → count_at is_counted s.views ≤ 64
@@ -31,14 +32,14 @@ module _ {C O : Type 0} (length_of : C → ℕ) (is_over : C → Bool) (origin_o
   -- a step that keeps the rule is one that contracts speak of
   pub step_on : (s : State (Option C) (View O)) (r : Rule s) (word id n' : ℕ) (v w : View O) (c : List (ℕ × Option C)) (a : Act (Option C)) (next : ℕ → ℕ)
       → get_elem? s.views id ≡ some v → v.origin ≡ w.origin → get_or s.words word 0 ≡ w.last → n' ≡ next w.last → Rule (stepped s word n' id c w a)
-      → StepOn length_of is_over origin_of word next v w
+      → StepOn held word next v w
   step_on s r word id n' v w c a next here same found is kept =
       let origin = (r.knows id v here).origin in
       record {
         before = s;
         after = stepped s word n' id c w a;
-        rule_before = subst (λ (o : O). GateRule length_of is_over origin_of o s) (sym origin) r;
-        rule_after = subst (λ (o : O). GateRule length_of is_over origin_of o (stepped s word n' id c w a)) (sym origin) kept;
+        rule_before = subst (λ (o : O). GateRule held o s) (sym origin) r;
+        rule_after = subst (λ (o : O). GateRule held o (stepped s word n' id c w a)) (sym origin) kept;
         place = id;
         was = here;
         views = refl;
@@ -76,7 +77,7 @@ module _ {C O : Type 0} (length_of : C → ℕ) (is_over : C → Bool) (origin_o
         one_stops = one;
         alone = alone;
         one_turns = omega arith;
-        home = λ even. subst (λ (k : ℕ). AtHome length_of is_over origin_of of k s.homes) (sym first) (r.home (sym (ap (λ (k : ℕ). k % 2) first) ∙ even));
+        home = λ even. subst (λ (k : ℕ). AtHome held of k s.homes) (sym first) (r.home (sym (ap (λ (k : ℕ). k % 2) first) ∙ even));
         knows = λ j u at_j. subst (λ (k : ℕ). Knows of k u) (sym first)
             (⊎_elim (λ h. subst (λ (x : View O). Knows of (get_or s.words 1 0) x) h.1 (still (get_or s.words 1 0) n v at is (r.knows id v here))) (λ h. r.knows j u h.1) (at_set s.views id j w u at_j));
         room = omega arith;
@@ -119,8 +120,8 @@ module _ {C O : Type 0} (length_of : C → ℕ) (is_over : C → Bool) (origin_o
   only v u (suc j) e = absurd (some-ne-none u (sym e))
 
   -- the rule at the start
-  pub opens : (passes word : ℕ) (c : C) → 0 < passes → passes ≤ 64 → word % 2 ≡ 0 → length_of c ≡ length_in word → is_over c ≡ over_bit word → origin_of c ≡ of
-      → Rule (opening (0 ∷ word ∷ []) (Some c ∷ []) (first_view passes of))
+  pub opens : (passes word : ℕ) (c : C) → 0 < passes → passes ≤ 64 → word % 2 ≡ 0 → held.length c ≡ length_in word → held.over c ≡ over_bit word → held.origin c ≡ of
+      → Rule (opening (0 ∷ word ∷ []) (Some c ∷ []) (new_view (passes - 1) of))
   opens passes word c some_pass few_passes even long over same = record {
     two_words = refl;
     one_slot = refl;
@@ -129,8 +130,8 @@ module _ {C O : Type 0} (length_of : C → ℕ) (is_over : C → Bool) (origin_o
     one_stops = omega arith;
     alone = λ none. absurd (omega arith);
     one_turns = even;
-    home = λ _. record { value = c; lies = refl; length_is = long; over_is = over; origin = same };
-    knows = λ j u at_j. subst (λ (y : View O). Knows of word y) (only (first_view passes of) u j at_j)
+    home = λ _. record { value = c; lies = refl; told = (long, over); origin = same };
+    knows = λ j u at_j. subst (λ (y : View O). Knows of word y) (only (new_view (passes - 1) of) u j at_j)
         (record { seen = omega arith; over = λ e. absurd (cc); taken = λ e. absurd (cc); origin = refl });
     room = omega arith;
   }

@@ -86,5 +86,9 @@ module _ {O : Type 0} (views : List (View O)) where
   -- who has the turn is inside or has raised the stop bit, and is not idle
   pub turners_inside : count_at has_turn views + count_at is_idle views ≤ count_at is_inside views + count_at is_stopping views
   turners_inside =
-      omega (arith, sum_by-less (λ v. weighs has_turn v + weighs is_idle v) (λ v. weighs is_inside v + weighs is_stopping v) (λ v. turner_inside v.at) views,
-        sum_by-add (weighs has_turn) (weighs is_idle) views, sum_by-add (weighs is_inside) (weighs is_stopping) views)
+      omega (
+        arith,
+        sum_by-less (λ v. weighs has_turn v + weighs is_idle v) (λ v. weighs is_inside v + weighs is_stopping v) (λ v. turner_inside v.at) views,
+        sum_by-add (weighs has_turn) (weighs is_idle) views,
+        sum_by-add (weighs is_inside) (weighs is_stopping) views,
+      )

@@ -28,7 +28,7 @@ module _ {X : Type 0} where
   pub sum_by-some : (f : X → ℕ) (xs : List X) → 0 < sum_by f xs → (i : ℕ) × (v : X) × (get_elem? xs i ≡ some v) × (0 < f v)
   sum_by-some f [] more = absurd (omega arith)
   sum_by-some f (x ∷ xs) more = elim (ℕ_discrete (f x) 0) [
-    yes none ↦ let r = sum_by-some f xs (omega (arith, sum_by-cons f x xs)) in (suc r.0, r.1, r.2, r.3)
+    | yes none ↦ let r = sum_by-some f xs (omega (arith, sum_by-cons f x xs)) in (suc r.0, r.1, r.2, r.3)
     | no some_here ↦ (0, x, refl, omega arith)
   ]
 

@@ -8,6 +8,7 @@ use lib.ListN.{get_elem?}
 use Rattle.atomic_table.specs.Table.{State, Me, Act, step, keeps, takes, gives, homes_after, carried_after, put_back, rest, Valid, stepped, Allows}
 use Rattle.atomic_table.proofs.Lists.{at_set}
 use Rattle.std.specs.Int.Bits.{bit_or}
+use Rattle.stop_gate.specs.declared.held.Held.{Ghosts as Held}
 use Rattle.stop_gate.specs.declared.view.View.{View}
 use Rattle.stop_gate.specs.declared.view.Place.{Place}
 use Rattle.stop_gate.specs.declared.view.Place.TheVariants.{Alone}
@@ -25,18 +26,18 @@ set_one [] a e = absurd (omega arith)
 set_one (x ∷ []) a e = refl
 set_one (x ∷ y ∷ l) a e = absurd (omega arith)
 
-module _ {C O : Type 0} (length_of : C → ℕ) (is_over : C → Bool) (origin_of : C → O) (of : O) where
+module _ {C O : Type 0} (held : Held C O) (of : O) where
   abbrev S : Type 0
   S = State (Option C) (View O)
 
   abbrev Rule : S → Type 0
-  Rule = GateRule length_of is_over origin_of of
+  Rule = GateRule held of
 
   -- a step on TURN, after which the pass is where it was for all but the turn
   turn_keeps : (s : S) (r : Rule s) (id n' : ℕ) (v w : View O) (c : List (ℕ × Option C)) (a : Act (Option C)) → get_elem? s.views id ≡ some v → IsAlike v.at w.at → w.spare ≡ v.spare
       → n' % 2 ≡ count_at has_turn (set s.views id w)
       → length (homes_after s.homes c a) ≡ 1
-      → (n' % 2 ≡ 0 → AtHome length_of is_over origin_of of n' (homes_after s.homes c a))
+      → (n' % 2 ≡ 0 → AtHome held of n' (homes_after s.homes c a))
       → length_in (get_or s.words 1 0) ≤ length_in n'
       → (IsTrue (over_bit (get_or s.words 1 0)) → IsTrue (over_bit n'))
       → Knows of n' w
@@ -65,7 +66,7 @@ module _ {C O : Type 0} (length_of : C → ℕ) (is_over : C → Bool) (origin_o
         one_stops = omega (arith, sum is_stopping);
         alone = λ some_alone. let l = r.alone (omega (arith, sum is_alone)) in omega (arith, sum is_inside);
         one_turns = ap (λ (k : ℕ). k % 2) first ∙ turn;
-        home = λ even. subst (λ (k : ℕ). AtHome length_of is_over origin_of of k (homes_after s.homes c a)) (sym first) (home (sym (ap (λ (k : ℕ). k % 2) first) ∙ even));
+        home = λ even. subst (λ (k : ℕ). AtHome held of k (homes_after s.homes c a)) (sym first) (home (sym (ap (λ (k : ℕ). k % 2) first) ∙ even));
         knows = λ j u at_j. subst (λ (k : ℕ). Knows of k u) (sym first)
             (⊎_elim (λ h. subst (λ (x : View O). Knows of n' x) h.1 mine)
             (λ h. let k = r.knows j u h.1 in let seen = k.seen in record { seen = omega arith; over = λ e. over (k.over e); taken = others j u h.1 at_j h.0; origin = k.origin })
@@ -87,7 +88,7 @@ module _ {C O : Type 0} (length_of : C → ℕ) (is_over : C → Bool) (origin_o
   taken_at : (slots id : ℕ) (me : Me (Option C) (View O)) → weight (has_turn me.0.at) ≡ 0 → weight (has_turn (turning me.0.at)) ≡ 1 → (s : S) (r : Rule s) → get_elem? s.views id ≡ some me.0
       → Dec (get_or s.words 1 0 % 2 ≡ 0)
       → (w : View O) × (a : Act (Option C)) × Valid s.homes me.1 a × Rule (stepped s 1 (bit_or (get_or s.words 1 0) 1) id me.1 w a)
-      × Takes length_of is_over origin_of (step slots 1 1 0 none) me (get_or s.words 1 0) (w, carried_after me.1 a)
+      × Takes held (step slots 1 1 0 none) me (get_or s.words 1 0) (w, carried_after me.1 a)
   taken_at slots id me no_turn one_turn s r here (yes even) =
       let n : ℕ = get_or s.words 1 0 in
       let v : View O = me.0 in
@@ -102,23 +103,23 @@ module _ {C O : Type 0} (length_of : C → ℕ) (is_over : C → Bool) (origin_o
       let longer = length_next n even in
       let top = over_next n even in
       let kept = subst (λ (k : ℕ). Rule (stepped s 1 k id me.1 w (takes 0 y))) (sym bits)
-              (turn_keeps s r id (n + 1) v w me.1 (takes 0 y) here (turning_alike v.at) refl
-              (omega arith)
-              (length-set s.homes 0 none ∙ r.one_slot)
-              (λ even_too. absurd (omega arith))
-              (omega arith)
-              (λ e. top ∙ e)
-              (record { seen = omega arith; over = λ e. top ∙ e; taken = λ _. (sym longer, sym top); origin = known.origin })
-              (λ j u at at_set _ one. absurd (let less = sum_by-here (weighs has_turn) s.views j u at in let is = ap weight one in omega arith))) in (
+      (turn_keeps s r id (n + 1) v w me.1 (takes 0 y) here (turning_alike v.at) refl
+      (omega arith)
+      (length-set s.homes 0 none ∙ r.one_slot)
+      (λ even_too. absurd (omega arith))
+      (omega arith)
+      (λ e. top ∙ e)
+      (record { seen = omega arith; over = λ e. top ∙ e; taken = λ _. (sym longer, sym top); origin = known.origin })
+      (λ j u at at_set _ one. absurd (let less = sum_by-here (weighs has_turn) s.views j u at in let is = ap weight one in omega arith))) in (
         w,
         takes 0 y,
         ap (λ (hs : List (maybe.Option (Option C))). get_elem? hs 0) h.lies,
         kept,
         record {
           odd = λ odd. absurd (omega arith);
-          even = λ _. record { value = c; length_is = h.length_is; over_is = h.over_is; origin = h.origin ∙ sym known.origin; seen = known.seen; over = known.over; after = refl };
+          even = λ _. record { value = c; told = h.told; origin = h.origin ∙ sym known.origin; seen = known.seen; over = known.over; after = refl };
           alone = λ _. even;
-          step = step_on length_of is_over origin_of of s r 1 id (bit_or n 1) v w me.1 (takes 0 y) as_out here refl refl (bits ∙ omega arith) kept;
+          step = step_on held of s r 1 id (bit_or n 1) v w me.1 (takes 0 y) as_out here refl refl (bits ∙ omega arith) kept;
         },
       )
   taken_at slots id me no_turn one_turn s r here (no odd) =
@@ -132,8 +133,8 @@ module _ {C O : Type 0} (length_of : C → ℕ) (is_over : C → Bool) (origin_o
       let known = r.knows id v here in
       let old : Knows of n w = record { seen = known.seen; over = known.over; taken = known.taken; origin = known.origin } in
       let kept = subst (λ (k : ℕ). Rule (stepped s 1 k id me.1 w keeps)) (sym bits)
-              (turn_keeps s r id n v w me.1 keeps here (alike v.at) refl
-              (omega arith) r.one_slot (λ even_too. absurd (omega arith)) (omega arith) (λ e. e) old (λ j u at _ _ one. (r.knows j u at).taken one)) in (
+      (turn_keeps s r id n v w me.1 keeps here (alike v.at) refl
+      (omega arith) r.one_slot (λ even_too. absurd (omega arith)) (omega arith) (λ e. e) old (λ j u at _ _ one. (r.knows j u at).taken one)) in (
         w,
         keeps,
         tt,
@@ -142,22 +143,22 @@ module _ {C O : Type 0} (length_of : C → ℕ) (is_over : C → Bool) (origin_o
           odd = λ _. refl;
           even = λ even. absurd (odd even);
           alone = λ alone. even_alone s r id v here alone;
-          step = step_on length_of is_over origin_of of s r 1 id (bit_or n 1) v w me.1 keeps as_out here refl refl (bits ∙ omega arith) kept;
+          step = step_on held of s r 1 id (bit_or n 1) v w me.1 keeps as_out here refl refl (bits ∙ omega arith) kept;
         },
       )
 
   pub takes_turn : (slots id : ℕ) (me : Me (Option C) (View O)) → weight (has_turn me.0.at) ≡ 0 → weight (has_turn (turning me.0.at)) ≡ 1
-      → Allows Rule slots id me 1 (λ n. bit_or n 1) (Takes length_of is_over origin_of (step slots 1 1 0 none) me)
+      → Allows Rule slots id me 1 (λ n. bit_or n 1) (Takes held (step slots 1 1 0 none) me)
   takes_turn slots id me no_turn one_turn s r _ here small = taken_at slots id me no_turn one_turn s r here (ℕ_discrete (get_or s.words 1 0 % 2) 0)
 
   -- give
   pub gives_turn : (slots id new : ℕ) (me : Me (Option C) (View O)) (c : C) → IsTrue (has_turn me.0.at) → me.1 ≡ (0, Some c) ∷ []
-      → new % 2 ≡ 0 → length_of c ≡ length_in new → is_over c ≡ over_bit new → me.0.taken ≤ length_of c → (IsTrue me.0.over → IsTrue (is_over c)) → origin_of c ≡ me.0.origin
-      → Allows Rule slots id me 1 (λ _. new) (Gives length_of is_over origin_of (step slots 1 new 0 none) me)
+      → new % 2 ≡ 0 → held.length c ≡ length_in new → held.over c ≡ over_bit new → me.0.taken ≤ held.length c → (IsTrue me.0.over → IsTrue (held.over c)) → held.origin c ≡ me.0.origin
+      → Allows Rule slots id me 1 (λ _. new) (Gives held (step slots 1 new 0 none) me)
   gives_turn slots id new me c has holds even long is_over_new longer over_too same s r _ here small =
       let n : ℕ = get_or s.words 1 0 in
       let v : View O = me.0 in
-      let w : View O = gave v (length_in new) (over_bit new) n in
+      let w : View O = gave v new n in
       let one_turn = ap weight has in
       let known = r.knows id v here in
       let was = known.taken has in
@@ -168,13 +169,13 @@ module _ {C O : Type 0} (length_of : C → ℕ) (is_over : C → Bool) (origin_o
       let none_left = settled_turns v.at in
       let lies = ap (λ (cs : List (ℕ × Option C)). put_back s.homes cs) holds ∙ set_one s.homes (some (Some c)) r.one_slot in
       let kept = turn_keeps s r id new v w me.1 gives here (settled_alike v.at) refl
-              (omega arith)
-              (ap length lies)
-              (λ _. record { value = c; lies = lies; length_is = long; over_is = is_over_new; origin = same ∙ known.origin })
-              (omega arith)
-              (λ e. sym is_over_new ∙ over_too (was.1 ∙ e))
-              (record { seen = omega arith; over = λ e. e; taken = λ one. absurd (let is = ap weight one in omega arith); origin = known.origin })
-              (λ j u at at_set _ one. absurd (let less = sum_by-here (weighs has_turn) (set s.views id w) j u at_set in let is = ap weight one in omega arith)) in (
+      (omega arith)
+      (ap length lies)
+      (λ _. record { value = c; lies = lies; told = (long, is_over_new); origin = same ∙ known.origin })
+      (omega arith)
+      (λ e. sym is_over_new ∙ over_too (was.1 ∙ e))
+      (record { seen = omega arith; over = λ e. e; taken = λ one. absurd (let is = ap weight one in omega arith); origin = known.origin })
+      (λ j u at at_set _ one. absurd (let less = sum_by-here (weighs has_turn) (set s.views id w) j u at_set in let is = ap weight one in omega arith)) in (
         w,
         gives,
         tt,
@@ -184,6 +185,6 @@ module _ {C O : Type 0} (length_of : C → ℕ) (is_over : C → Bool) (origin_o
           odd = omega arith;
           taken = sym was.0;
           was_over = sym was.1;
-          step = step_on length_of is_over origin_of of s r 1 id new v w me.1 gives (λ _. new) here refl refl refl kept;
+          step = step_on held of s r 1 id new v w me.1 gives (λ _. new) here refl refl refl kept;
         },
       )

@@ -8,13 +8,15 @@ use Rattle.stop_gate.specs.declared.answers.Seize.{Seize}
 use Rattle.stop_gate.specs.declared.answers.Seize.TheVariants as seize
 use Rattle.stop_gate.specs.declared.answers.Take.{Take}
 use Rattle.stop_gate.specs.declared.answers.Take.TheVariants as take
+use Rattle.stop_gate.specs.declared.view.Place.{Place}
+use Rattle.stop_gate.specs.declared.view.Place.TheVariants as place
 use Rattle.stop_gate.specs.Passes.{Pass}
 
 module _ {C O : Type 0} where
   -- the pass that comes back
   abbrev pub entered : Enter C O → Pass O
   entered (enter.Inside pass) = pass
-  entered (enter.Standing word pass) = pass
+  entered (enter.Standing word back) = back
 
   abbrev pub raised : Raise C O → Pass O
   raised (raise.Stopping pass) = pass
@@ -25,8 +27,25 @@ module _ {C O : Type 0} where
   seized (seize.NotYet inside pass) = pass
 
   abbrev pub taken : Take C O → Pass O
-  taken (take.Taken pass held) = pass
+  taken (take.Taken turn held) = turn
   taken (take.Held word pass) = pass
+
+  -- where it is
+  abbrev pub entered_at : Enter C O → Place
+  entered_at (enter.Inside pass) = place.Inside
+  entered_at (enter.Standing word back) = place.Backing
+
+  abbrev pub raised_at : Raise C O → Place
+  raised_at (raise.Stopping pass) = place.Stopping
+  raised_at (raise.Busy word pass) = place.Out
+
+  abbrev pub seized_at : Seize C O → Place
+  seized_at (seize.Alone pass) = place.Alone
+  seized_at (seize.NotYet inside pass) = place.Stopping
+
+  abbrev pub taken_at : Take C O → Place
+  taken_at (take.Taken turn held) = place.Turning
+  taken_at (take.Held word pass) = place.Inside
 
   -- a fact for one answer
   abbrev pub IfInside : Enter C O → (Pass O → Type 0) → Type 0

@@ -1,9 +1,10 @@
--- The rule of a gate: what its words, its slot and its passes say of one another between any two steps.
-use Rattle.std.specs.Prelude.{◌≡◌, ℕ, ◌+◌, ◌/◌, ◌%◌, ◌^◌, ◌<◌, ◌≤◌, Bool, IsTrue, List, [], ◌∷◌, length, slice_index, Option, Some}
+-- The rule of a gate: what its words, its slot and its passes say of one another between two steps.
+use Rattle.std.specs.Prelude.{◌≡◌, ℕ, ◌+◌, ◌/◌, ◌%◌, ◌^◌, ◌<◌, ◌≤◌, IsTrue, List, [], ◌∷◌, length, slice_index, Option, Some}
 use mathlib.Core.Option.{some}
 use mathlib.Core.Option as maybe
 use lib.ListN.{get_elem?}
 use Rattle.atomic_table.specs.Table.{State}
+use Rattle.stop_gate.specs.declared.held.Held.{Ghosts as Held}
 use Rattle.stop_gate.specs.declared.view.View.{View}
 use Rattle.stop_gate.specs.Words as word
 use Rattle.stop_gate.specs.Words.{length_in, over_bit, IsHome}
@@ -16,42 +17,47 @@ gate s = slice_index s.words 0
 abbrev pub turn : {S V : Type 0} → State S V → ℕ
 turn s = slice_index s.words 1
 
--- what a pass knows of TURN, and of the value's origin
-pub record Knows {O : Type 0} (origin_is : O) (turn_is : ℕ) (v : View O) : Type 0 where
+-- the value's length and end are those in TURN
+abbrev pub Tells : {C O : Type 0} → Held C O → ℕ → C → Type 0
+Tells held turn value =
+    (held.length value ≡ length_in turn) × (held.over value ≡ over_bit turn)
+
+-- the slot has a value that began as this, and TURN tells of it
+pub record AtHome {C O : Type 0} (held : Held C O) (began : O) (turn : ℕ)
+    (slots : List (maybe.Option (Option C))) : Type 0 where
+  pub value : C
+  pub lies : slots ≡ some (Some value) ∷ []
+  pub told : Tells held turn value
+  pub origin : held.origin value ≡ began
+
+-- what a pass knows of TURN, and of what the value began as
+pub record Knows {O : Type 0} (began : O) (turn : ℕ) (v : View O) : Type 0 where
   -- it has seen no greater length
-  pub seen : v.seen ≤ length_in turn_is
-  -- it has seen the value over only where it is
-  pub over : IsTrue v.over → IsTrue (over_bit turn_is)
-  -- with the turn, it knows the value as it was taken
-  pub taken : IsTrue (has_turn v.at) → (v.taken ≡ length_in turn_is) × (v.over ≡ over_bit turn_is)
-  pub origin : v.origin ≡ origin_is
+  pub seen : v.seen ≤ length_in turn
+  -- it has seen the value over only where that bit is set
+  pub over : IsTrue v.over → IsTrue (over_bit turn)
+  -- with the turn, it knows the length and the end of the value as it was taken
+  pub taken : IsTrue (has_turn v.at) → (v.taken ≡ length_in turn) × (v.over ≡ over_bit turn)
+  pub origin : v.origin ≡ began
 
-module _ {C O : Type 0} (length_of : C → ℕ) (is_over : C → Bool) (origin_of : C → O) where
-  -- the slot has a value of this origin, whose length and end TURN tells
-  pub record AtHome (origin_is : O) (turn_is : ℕ) (homes : List (maybe.Option (Option C))) : Type 0 where
-    pub value : C
-    pub lies : homes ≡ some (Some value) ∷ []
-    pub length_is : length_of value ≡ length_in turn_is
-    pub over_is : is_over value ≡ over_bit turn_is
-    pub origin : origin_of value ≡ origin_is
-
-  -- the rule, for a gate whose value began as this origin
-  pub record GateRule (origin_is : O) (s : State (Option C) (View O)) : Type 0 where
-    pub two_words : length s.words ≡ 2
-    pub one_slot : length s.homes ≡ 1
-    -- the low part of GATE is the number of passes that are Backing, Inside or Turning
-    pub low_part : word.low_part (gate s) ≡ count_at is_counted s.views
-    -- the stop bit is set exactly where one pass is Stopping, Alone or AloneTurning
-    pub stop_bit : gate s / 2 ^ 63 ≡ count_at is_stopping s.views
-    -- there is never a second such pass
-    pub one_stops : count_at is_stopping s.views ≤ 1
-    -- where a pass is Alone or AloneTurning, none is Inside or Turning
-    pub alone : 0 < count_at is_alone s.views → count_at is_inside s.views ≡ 0
-    -- TURN is odd exactly where one pass is Turning or AloneTurning, and there is never a second
-    pub one_turns : turn s % 2 ≡ count_at has_turn s.views
-    -- the slot is away from home only where TURN is odd
-    pub home : IsHome (turn s) → AtHome origin_is (turn s) s.homes
-    -- no pass has seen more than TURN tells, and who has the turn knows what it tells
-    pub knows : (k : ℕ) (v : View O) → get_elem? s.views k ≡ some v → Knows origin_is (turn s) v
-    -- the passes and those that may still be made are at most 64
-    pub room : length s.views + spares s.views ≤ 64
+-- the rule, for a gate whose value began as this
+pub record GateRule {C O : Type 0} (held : Held C O) (began : O)
+    (s : State (Option C) (View O)) : Type 0 where
+  pub two_words : length s.words ≡ 2
+  pub one_slot : length s.homes ≡ 1
+  -- the low part of GATE is the number of passes that are Backing, Inside or Turning
+  pub low_part : word.low_part (gate s) ≡ count_at is_counted s.views
+  -- the stop bit is set exactly where a pass is Stopping, Alone or AloneTurning
+  pub stop_bit : gate s / 2 ^ 63 ≡ count_at is_stopping s.views
+  -- and there is never a second such pass
+  pub one_stops : count_at is_stopping s.views ≤ 1
+  -- where a pass is Alone or AloneTurning, none is Inside or Turning
+  pub alone : 0 < count_at is_alone s.views → count_at is_inside s.views ≡ 0
+  -- TURN is odd exactly where a pass is Turning or AloneTurning, and there is never a second
+  pub one_turns : turn s % 2 ≡ count_at has_turn s.views
+  -- where TURN is even, the value is at home
+  pub home : IsHome (turn s) → AtHome held began (turn s) s.homes
+  -- each pass knows of the value what TURN tells, or less
+  pub knows : (k : ℕ) (v : View O) → get_elem? s.views k ≡ some v → Knows began (turn s) v
+  -- the passes, and those that may still be made, are at most 64
+  pub room : length s.views + spares s.views ≤ 64

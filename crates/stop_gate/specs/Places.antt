@@ -1,4 +1,4 @@
--- Where a pass is, and how many passes of a gate are at such a place. A pass that is spent is nowhere.
+-- Where a pass is, and how many passes are at such a place. A pass that is Spent counts nowhere.
 use Rattle.std.specs.Prelude.{ℕ, Bool, true, false, List, count_by, sum_by}
 use Rattle.stop_gate.specs.declared.view.View.{View}
 use Rattle.stop_gate.specs.declared.view.Place.{Place}

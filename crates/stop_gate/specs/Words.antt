@@ -1,5 +1,7 @@
--- The two words of a gate. GATE has the number of passes that count in bits 0 to 62, and the stop bit in bit 63.
--- TURN is odd while the value is out. Its bits 1 to 62 are the length of the value that is at home or was taken last, and bit 63 is set where that value is over.
+-- The two words of a gate.
+-- GATE has the number of passes that count in bits 0 to 62, and the stop bit in bit 63.
+-- TURN is odd while the value is out. Its bits 1 to 62 are the length of the value that is at home
+-- or was taken last, and bit 63 is set where that value is over.
 use Rattle.std.specs.Prelude.{ℕ, ◌+◌, ◌*◌, ◌/◌, ◌%◌, ◌^◌, ◌≡◌, Bool, nat_le, if◌then◌else◌}
 
 -- bits 0 to 62 of GATE
@@ -10,13 +12,9 @@ low_part gate = gate % 2 ^ 63
 abbrev pub stop_bit : ℕ → Bool
 stop_bit gate = nat_le (2 ^ 63) gate
 
--- bits 1 to 62 of TURN
-abbrev pub length_in : ℕ → ℕ
-length_in turn = turn / 2 % 2 ^ 62
-
--- bit 63 of TURN
-abbrev pub over_bit : ℕ → Bool
-over_bit turn = nat_le (2 ^ 63) turn
+-- GATE with the stop bit
+abbrev pub with_stop : ℕ → ℕ
+with_stop gate = low_part gate + 2 ^ 63
 
 -- the value is out
 abbrev pub IsOut : ℕ → Type 0
@@ -26,11 +24,15 @@ IsOut turn = turn % 2 ≡ 1
 abbrev pub IsHome : ℕ → Type 0
 IsHome turn = turn % 2 ≡ 0
 
--- GATE with the stop bit
-abbrev pub with_stop : ℕ → ℕ
-with_stop gate = low_part gate + 2 ^ 63
+-- bits 1 to 62 of TURN
+abbrev pub length_in : ℕ → ℕ
+length_in turn = turn / 2 % 2 ^ 62
 
--- TURN with bit 0
+-- bit 63 of TURN
+abbrev pub over_bit : ℕ → Bool
+over_bit turn = nat_le (2 ^ 63) turn
+
+-- TURN made odd
 abbrev pub as_out : ℕ → ℕ
 as_out turn = turn / 2 * 2 + 1
 

@@ -12,8 +12,8 @@ impl<C: Held> Gate<C> {
     /// Ends the gate. The value comes back, unless it is out with a pass that never gave it back.
     pub fn close(self, pass: Out<C>) -> Option<C>
         requires gate { IsOf self pass }
-        ensures ended { Ends C.length C.over C.origin self.origin pass result }
-        ensures value { IfSome result (λ held. GoesOn C.length C.over C.origin pass.view.seen pass held) }
+        ensures ended { Ends C.Held self.origin pass result }
+        ensures value { IfSome result (λ held. GoesOn C.Held pass.view.seen pass held) }
     {
         let Gate { table } = self;
         let Out { seat } = pass;

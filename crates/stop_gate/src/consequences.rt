@@ -1,21 +1,30 @@
 //! What the rule of a gate says of single passes.
-ghost use Rattle.stop_gate.specs.Consequences.{LowPartCounts, StopBitIsRaised, OneStops, AloneIsAlone, OddIsTaken, OneTurns, TurnIsKnown, EvenIsHome, SeenIsThere, FewPasses};
+ghost use Rattle.stop_gate.specs.Consequences.{LowPartCounts, StopBitIsRaised, StopperHasTheBit, OneStops, AloneIsAlone, OddIsTaken, TakerMakesOdd, OneTurns, TakerKnows, EvenIsHome, SeenIsThere, OverIsTold, FewPasses};
 
 use crate::gate::Gate;
 use crate::held::Held;
 
 impl<C: Held> Gate<C> {
-    /// Does nothing. Its contract says what holds in each state that the rule allows, so right before and right after each step.
+    /// Does nothing. Its contract says what holds in each state that the rule allows, and so right
+    /// before and right after each step that a call makes.
     pub fn rule(&self)
-        ensures low_part { LowPartCounts C.length C.over C.origin }
-        ensures stop_bit { StopBitIsRaised C.length C.over C.origin }
-        ensures one_stops { OneStops C.length C.over C.origin }
-        ensures alone { AloneIsAlone C.length C.over C.origin }
-        ensures odd { OddIsTaken C.length C.over C.origin }
-        ensures one_turns { OneTurns C.length C.over C.origin }
-        ensures known { TurnIsKnown C.length C.over C.origin }
-        ensures home { EvenIsHome C.length C.over C.origin }
-        ensures seen { SeenIsThere C.length C.over C.origin }
-        ensures few { FewPasses C.length C.over C.origin }
+        // What GATE says of the passes.
+        ensures low_part { LowPartCounts C.Held }
+        ensures stop_bit { StopBitIsRaised C.Held }
+        ensures stopper { StopperHasTheBit C.Held }
+        ensures one_stops { OneStops C.Held }
+        ensures alone { AloneIsAlone C.Held }
+
+        // What TURN says of them, and of the value.
+        ensures odd { OddIsTaken C.Held }
+        ensures taker { TakerMakesOdd C.Held }
+        ensures one_turns { OneTurns C.Held }
+        ensures taken { TakerKnows C.Held }
+        ensures home { EvenIsHome C.Held }
+
+        // What a pass has seen, and how many there are.
+        ensures seen { SeenIsThere C.Held }
+        ensures over { OverIsTold C.Held }
+        ensures few { FewPasses C.Held }
     {}
 }

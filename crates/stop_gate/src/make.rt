@@ -1,7 +1,7 @@
 //! How a gate is made.
-ghost use Rattle.std.specs.Prelude.{◌≡◌, ℕ, ◌+◌, ◌-◌, ◌<◌, ◌≤◌, [], ◌∷◌, IfOk, IfErr, vec_len, vec_capacity, All};
+ghost use Rattle.std.specs.Prelude.{◌≡◌, ◌-◌, ◌<◌, ◌≤◌, [], ◌∷◌, IfOk, IfErr, vec_len, vec_capacity, All};
 ghost use Rattle.stop_gate.specs.Steps.{with_less};
-ghost use Rattle.stop_gate.specs.Passes.{IsOf, IsFresh};
+ghost use Rattle.stop_gate.specs.Passes.{IsOf, IsNewOf};
 
 use crate::gate::Gate;
 use crate::held::Held;
@@ -14,13 +14,13 @@ use std::alloc::Global;
 use std::snapshot::Snapshot;
 
 impl<C: Held> Gate<C> {
-    /// A gate that holds the value, and its passes, 1 to 64. Only memory can be lacking; the value comes back then.
+    /// Makes a gate that holds the value, and its passes: 1 to 64, which can make no others.
+    /// Only memory can be lacking. The value comes back then.
     pub fn new(alloc: Global, held: C, passes: u8) -> Result<(Gate<C>, Vec<Out<C>>), C>
         requires within { (1 ≤ passes) × (passes ≤ 64) }
         ensures origin { IfOk result (λ r. r.0.origin ≡ C.origin held) }
         ensures counts { IfOk result (λ r. vec_len r.1 ≡ passes) }
-        ensures passes { IfOk result (λ r. All (λ p. IsOf r.0 p × IsFresh p) r.1.items) }
-        ensures spare { IfOk result (λ r. All (λ p. p.view.spare ≡ 0) r.1.items) }
+        ensures passes { IfOk result (λ r. All (λ p. IsNewOf r.0 0 p) r.1.items) }
         ensures err { IfErr result (λ back. back ≡ held) }
     {
         let Ok(row) = Vec::with_capacity(alloc, usize::from(passes)) else {
@@ -47,14 +47,13 @@ impl<C: Held> Gate<C> {
         }
     }
 
-    // All passes of a gate that has one, which may make the others.
+    // All passes of a gate, the first of which may make the others.
     fn deal(&self, mut first: Out<C>, mut passes: Vec<Out<C>>, count: u8) -> Vec<Out<C>>
-        requires first { IsOf self.now first × IsFresh first }
-        requires spare { first.view.spare + 1 ≡ count }
+        requires some { 1 ≤ count }
+        requires first { IsNewOf self.now (count - 1) first }
         requires room { (passes.items ≡ []) × (count ≤ vec_capacity passes) }
         ensures counts { vec_len result ≡ count }
-        ensures passes { All (λ p. IsOf self.now p × IsFresh p) result.items }
-        ensures spare { All (λ p. p.view.spare ≡ 0) result.items }
+        ensures passes { All (λ p. IsNewOf self.now 0 p) result.items }
     {
         for _ in 1..count {
             let pass = self.another(&mut first);
@@ -64,13 +63,13 @@ impl<C: Held> Gate<C> {
         passes
     }
 
-    // A further pass, which costs a load of GATE.
+    // A further pass, by a load of GATE.
     fn another(&self, pass: &mut Out<C>) -> Out<C>
         requires gate { IsOf self.now pass.old }
         requires spare { 0 < pass.old.view.spare }
-        ensures gate { IsOf self.now result }
-        ensures fresh { IsFresh result × (result.view.spare ≡ 0) }
-        ensures same { (pass.new.table ≡ pass.old.table) × (pass.new.view ≡ with_less pass.old.view) }
+        ensures pass { IsNewOf self.now 0 result }
+        ensures same { pass.new.table ≡ pass.old.table }
+        ensures less { pass.new.view ≡ with_less pass.old.view }
     {
         let seat = self
             .table

@@ -1,4 +1,4 @@
-//! The rule of a gate's table. Its first word is GATE, its second word TURN, and its one slot has the value.
+//! The rule of a gate's table: two words, GATE and TURN, and a slot that has the value.
 use crate::held::Held;
 use crate::view::View;
 use atomic_table::TableRule;
@@ -17,10 +17,11 @@ pub struct Ruled<C> {
 }
 
 impl<C: Held> TableRule<Option<C>, View<C::Origin>, About<C>> for Ruled<C> {
+    ghost use Rattle.std.specs.Prelude.{◌-◌};
     ghost use Rattle.stop_gate.specs.GateRule.{GateRule};
-    ghost use Rattle.stop_gate.specs.Steps.{first_view};
+    ghost use Rattle.stop_gate.specs.Steps.{new_view};
 
-    ghost holds = { λ about. GateRule C.length C.over C.origin (C.origin about.held.value) };
+    ghost holds = { λ about. GateRule C.Held (C.origin about.held.value) };
 
-    ghost first = { λ about. first_view about.passes (C.origin about.held.value) };
+    ghost first = { λ about. new_view (about.passes - 1) (C.origin about.held.value) };
 }

@@ -8,44 +8,44 @@ use atomic_table::{Play, Split};
 pub(crate) struct Enter;
 
 impl<C: Held> Play<Option<C>, View<C::Origin>> for Enter {
-    ghost then = { Enters C.length C.over C.origin };
+    ghost then = { Enters C.Held };
 }
 
 /// Of a pass that goes back, too.
 pub(crate) struct Leave;
 
 impl<C: Held> Play<Option<C>, View<C::Origin>> for Leave {
-    ghost then = { Leaves C.length C.over C.origin };
+    ghost then = { Leaves C.Held };
 }
 
 pub(crate) struct Raise;
 
 impl<C: Held> Play<Option<C>, View<C::Origin>> for Raise {
-    ghost then = { Raises C.length C.over C.origin };
+    ghost then = { Raises C.Held };
 }
 
 pub(crate) struct Seize;
 
 impl<C: Held> Play<Option<C>, View<C::Origin>> for Seize {
-    ghost then = { Seizes C.length C.over C.origin };
+    ghost then = { Seizes C.Held };
 }
 
 pub(crate) struct Lower;
 
 impl<C: Held> Play<Option<C>, View<C::Origin>> for Lower {
-    ghost then = { Lowers C.length C.over C.origin };
+    ghost then = { Lowers C.Held };
 }
 
 pub(crate) struct Take;
 
 impl<C: Held> Play<Option<C>, View<C::Origin>> for Take {
-    ghost then = { Takes C.length C.over C.origin };
+    ghost then = { Takes C.Held };
 }
 
 pub(crate) struct Give;
 
 impl<C: Held> Play<Option<C>, View<C::Origin>> for Give {
-    ghost then = { Gives C.length C.over C.origin };
+    ghost then = { Gives C.Held };
 }
 
 /// A pass with spare makes another.

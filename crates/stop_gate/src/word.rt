@@ -7,7 +7,7 @@ use crate::held::Held;
 /// GATE: the passes that count in bits 0 to 62, and the stop bit.
 pub(crate) const GATE: usize = 0;
 
-/// TURN: whether the value is out in bit 0, its length in bits 1 to 62, whether it is over in bit 63.
+/// TURN: odd while the value is out, its length in bits 1 to 62, and bit 63 where it is over.
 pub(crate) const TURN: usize = 1;
 
 /// Bit 63: the stop bit of GATE, and of TURN that the value is over.

@@ -3,4 +3,4 @@ use Rattle.stop_gate.proofs.Keeps.{splits}
 use Rattle.stop_gate.proofs.gate.Gate.another.Goals as goal
 
 pub split_seat-seat-requires : goal.split_seat-seat-requires
-split_seat-seat-requires g c = (search rules, search rules, splits g.C.Held.length g.C.Held.over g.C.Held.origin _ _ _ c.pass.invariant.0 (subst (λ p. 0 < p.view.spare) (sym c.pass.view_is) c.requires.spare))
+split_seat-seat-requires g c = (search rules, search rules, splits g.C.Held _ _ _ c.pass.invariant.0 (subst (λ p. 0 < p.view.spare) (sym c.pass.view_is) c.requires.spare))

@@ -8,4 +8,4 @@ use Rattle.stop_gate.proofs.gate.Gate.back.Goals as goal
 pub fetch_sub-requires : goal.fetch_sub-requires
 fetch_sub-requires g c =
     let was = λ (p : Place → Bool). ap (λ a. weight (p a)) c.pass.invariant.0 in
-    (search rules, search rules, leaves g.C.Held.length g.C.Held.over g.C.Held.origin _ _ _ _ (was is_counted) (was is_stopping) (was is_alone) (was has_turn))
+    (search rules, search rules, leaves g.C.Held _ _ _ _ (was is_counted) (was is_stopping) (was is_alone) (was has_turn))

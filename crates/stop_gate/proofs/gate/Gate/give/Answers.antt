@@ -16,7 +16,7 @@ swap-requires g c =
     let word = c.word_of-word.ensures in (
       search rules,
       search rules,
-      gives_turn g.C.Held.length g.C.Held.over g.C.Held.origin _ _ _ _ _ c.args.held (ap (λ u. has_turn u.at) v ∙ ap has_turn is.0) (ap (λ m. m.1) e ∙ ap (λ cs. (0, Some c.args.held) ∷ rest cs) is.1)
+      gives_turn g.C.Held _ _ _ _ _ c.args.held (ap (λ u. has_turn u.at) v ∙ ap has_turn is.0) (ap (λ m. m.1) e ∙ ap (λ cs. (0, Some c.args.held) ∷ rest cs) is.1)
           word.home (sym word.length) (sym word.over)
           (subst (λ u. u.taken ≤ g.C.Held.length c.args.held) (sym known) may.longer)
           (subst (λ u. IsTrue u.over → IsTrue (g.C.Held.over c.args.held)) (sym known) may.stays_over)
@@ -27,5 +27,5 @@ pub returns-clause-step : goal.returns-clause-step
 returns-clause-step g c =
     let view = ap (λ m. m.0) c.exchange.ensures.3 ∙ ap (λ p. p.view) c.turn.view_is in
     let word = c.word_of-word.ensures.value in
-    let P : ℕ × View _ → Type 0 = λ z. StepOnTurn g.C.Held.length g.C.Held.over g.C.Held.origin (λ _. z.0) z.1 c.swap.new.seat.me.0 in
+    let P : ℕ × View _ → Type 0 = λ z. StepOnTurn g.C.Held (λ _. z.0) z.1 c.swap.new.seat.me.0 in
     subst P (λ i. (word i, view i)) c.swap.ensures.2.step

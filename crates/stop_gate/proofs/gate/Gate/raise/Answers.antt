@@ -4,4 +4,4 @@ use Rattle.stop_gate.proofs.gate.Gate.raise.Goals as goal
 
 pub fetch_or-word-requires : goal.fetch_or-word-requires
 fetch_or-word-requires g c = let at = c.pass.invariant.0 in
-    (search rules, search rules, raises g.C.Held.length g.C.Held.over g.C.Held.origin _ _ _ _ at)
+    (search rules, search rules, raises g.C.Held _ _ _ _ at)

@@ -4,4 +4,4 @@ use Rattle.stop_gate.proofs.gate.Gate.seize.Goals as goal
 
 pub load-inside-requires : goal.load-inside-requires
 load-inside-requires g c = let at = c.pass.invariant.0 in
-    (search rules, search rules, seizes g.C.Held.length g.C.Held.over g.C.Held.origin _ _ _ _ at)
+    (search rules, search rules, seizes g.C.Held _ _ _ _ at)

@@ -8,7 +8,7 @@ use Rattle.stop_gate.proofs.gate.Gate.take_alone.Goals as goal
 
 pub fetch_or-requires : goal.fetch_or-requires
 fetch_or-requires g c = let at = c.pass.invariant.0 in
-    (search rules, search rules, takes_turn g.C.Held.length g.C.Held.over g.C.Held.origin _ _ _ _ (ap (λ a. weight (has_turn a)) at) (ap (λ a. weight (has_turn (turning a))) at))
+    (search rules, search rules, takes_turn g.C.Held _ _ _ _ (ap (λ a. weight (has_turn a)) at) (ap (λ a. weight (has_turn (turning a))) at))
 
 pub exchange-requires : goal.exchange-requires
 exchange-requires g c = let took = c.fetch_or.ensures.2 in let t = took.even (took.alone c.pass.invariant.0) in let e = ap (λ m. m.1) t.after in

@@ -4,4 +4,4 @@ use Rattle.stop_gate.proofs.gate.Gate.try_enter.Goals as goal
 
 pub fetch_add-word-requires : goal.fetch_add-word-requires
 fetch_add-word-requires g c = let at = c.pass.invariant.0 in
-    (search rules, search rules, enters g.C.Held.length g.C.Held.over g.C.Held.origin _ _ _ _ at)
+    (search rules, search rules, enters g.C.Held _ _ _ _ at)
