@@ -1,5 +1,5 @@
 -- What is left when a gate is closed.
-use Rattle.std.proofs.Common.{subst, ◌≡◌, ℕ, zero, suc, ◌%◌, Bool, List, [], ◌∷◌, get_or, sym, refl, ap, ◌∙◌, arith, Option, Some, None, IfSome, IsTrue}
+use Rattle.std.proofs.Common.{subst, ◌≡◌, ℕ, zero, suc, ◌%◌, List, [], ◌∷◌, get_or, sym, refl, ap, ◌∙◌, arith, Option, Some, None, IfSome}
 use mathlib.Core.Option.{some, some-injective, some-ne-none}
 use mathlib.Core.Option as maybe
 use lib.ListN.{get_elem?}

@@ -1,5 +1,5 @@
 -- How a step keeps the rule: what it owes where it is on GATE, where it makes a pass, and at the start.
-use Rattle.std.proofs.Common.{◌≡◌, ℕ, zero, suc, ◌+◌, ◌-◌, ◌*◌, ◌/◌, ◌%◌, ◌^◌, ◌<◌, ◌≤◌, Bool, true, false, IsTrue, List, [], ◌∷◌, length, get_or, set, sym, refl, ap, ◌∙◌, subst, arith, length-set, length-append, get_or-set_same, ⊎_elim, Option, Some}
+use Rattle.std.proofs.Common.{◌≡◌, ℕ, zero, suc, ◌+◌, ◌-◌, ◌*◌, ◌/◌, ◌%◌, ◌^◌, ◌<◌, ◌≤◌, Bool, List, [], ◌∷◌, get_or, set, sym, refl, ap, ◌∙◌, subst, arith, length-set, length-append, get_or-set_same, ⊎_elim, Option, Some}
 use Rattle.std.proofs.lemmas.List.{get_or-set_other}
 use Rattle.std.proofs.lemmas.List.Sums.{sum_by_push}
 use mathlib.Core.Option.{some, some-injective, some-ne-none}
@@ -11,7 +11,7 @@ use Rattle.stop_gate.specs.declared.view.View.{View}
 use Rattle.stop_gate.specs.declared.view.Place.{Place}
 use Rattle.stop_gate.specs.declared.view.Place.TheVariants.{Out}
 use Rattle.stop_gate.specs.Words.{length_in, over_bit}
-use Rattle.stop_gate.specs.Places.{is_counted, is_stopping, is_inside, is_alone, has_turn, count_at, spares}
+use Rattle.stop_gate.specs.Places.{is_counted, is_stopping, is_inside, is_alone, has_turn, count_at}
 use Rattle.stop_gate.specs.GateRule.{Knows, AtHome, GateRule}
 use Rattle.stop_gate.specs.Steps.{StepOn, moved, with_less, another, new_view}
 use Rattle.stop_gate.proofs.Sums.{sum_by-set}

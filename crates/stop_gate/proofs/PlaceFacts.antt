@@ -1,8 +1,8 @@
 -- Places as numbers to be summed, and how the kinds of place go together.
-use Rattle.std.proofs.Common.{◌≡◌, ℕ, ◌+◌, ◌≤◌, ◌<◌, Bool, true, false, cond, IsTrue, List, length, refl, arith, sum_by}
+use Rattle.std.proofs.Common.{◌≡◌, ℕ, ◌+◌, ◌≤◌, ◌<◌, Bool, true, false, cond, IsTrue, List, length, refl, arith}
 use Rattle.stop_gate.specs.declared.view.View.{View}
 use Rattle.stop_gate.specs.declared.view.Place.{Place}
-use Rattle.stop_gate.specs.declared.view.Place.TheVariants.{Out, Backing, Inside, Turning, Stopping, Alone, AloneTurning, Spent}
+use Rattle.stop_gate.specs.declared.view.Place.TheVariants.{Backing, Inside, Turning, Stopping, Alone, AloneTurning}
 use Rattle.stop_gate.specs.Places.{is_counted, is_stopping, is_inside, is_alone, has_turn, count_at}
 use Rattle.stop_gate.specs.Steps.{turning, settled}
 use Rattle.stop_gate.proofs.Sums.{sum_by-one, sum_by-less, sum_by-add}

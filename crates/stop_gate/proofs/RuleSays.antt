@@ -1,14 +1,11 @@
 -- What the rule says of single passes.
-use Rattle.std.proofs.Common.{◌≡◌, ◌≢◌, ℕ, ◌+◌, ◌≤◌, ◌<◌, ◌^◌, Bool, IsTrue, List, [], ◌∷◌, sym, refl, ap, arith, sum_by, Option, leb}
+use Rattle.std.proofs.Common.{ℕ, ◌≤◌, ◌<◌, Bool, ap, arith, Option}
 use native.Mathlib.Decide.{ℕ_discrete}
-use mathlib.Core.Option.{some}
-use lib.ListN.{get_elem?}
 use Rattle.atomic_table.specs.Table.{State}
 use Rattle.stop_gate.specs.declared.held.Held.{Ghosts as Held}
 use Rattle.stop_gate.specs.declared.view.View.{View}
 use Rattle.stop_gate.specs.declared.view.Place.{Place}
 use Rattle.stop_gate.specs.Places.{is_stopping, is_inside, is_alone, has_turn, count_at}
-use Rattle.stop_gate.specs.GateRule.{GateRule}
 use Rattle.stop_gate.specs.Consequences.{IsPass, SomePass, NeverTwo, LowPartCounts, StopBitIsRaised, StopperHasTheBit, OneStops, AloneIsAlone, OddIsTaken, TakerMakesOdd, OneTurns, TakerKnows, EvenIsHome, SeenIsThere, OverIsTold, FewPasses}
 use Rattle.stop_gate.proofs.Words.{stop_true, stop_set}
 use Rattle.stop_gate.proofs.Sums.{sum_by-here, sum_by-two, sum_by-some}

@@ -1,5 +1,5 @@
 -- The kinds of step on TURN, which take the slot and give it back, keep the rule.
-use Rattle.std.proofs.Common.{◌≡◌, ◌≢◌, ℕ, ◌+◌, ◌*◌, ◌/◌, ◌%◌, ◌≤◌, Bool, true, List, [], ◌∷◌, length, get_or, set, sym, refl, ap, ◌∙◌, subst, arith, length-set, get_or-set_same, ⊎_elim, Option, Some, IsTrue}
+use Rattle.std.proofs.Common.{◌≡◌, ◌≢◌, ℕ, ◌+◌, ◌%◌, ◌≤◌, Bool, List, [], ◌∷◌, length, get_or, set, sym, refl, ap, ◌∙◌, subst, arith, length-set, get_or-set_same, ⊎_elim, Option, Some, IsTrue}
 use Rattle.std.proofs.lemmas.List.{get_or-set_other}
 use native.Mathlib.Decide.{ℕ_discrete}
 use mathlib.Core.Option.{none, some}
@@ -15,7 +15,7 @@ use Rattle.stop_gate.specs.declared.view.Place.TheVariants.{Alone}
 use Rattle.stop_gate.specs.Words.{length_in, over_bit, as_out}
 use Rattle.stop_gate.specs.Places.{is_counted, is_stopping, is_inside, is_alone, has_turn, count_at}
 use Rattle.stop_gate.specs.GateRule.{Knows, AtHome, GateRule}
-use Rattle.stop_gate.specs.Steps.{moved, took, gave, turning, settled, Takes, Gives}
+use Rattle.stop_gate.specs.Steps.{moved, took, gave, turning, Takes, Gives}
 use Rattle.stop_gate.proofs.Words.{or_one_even, or_one_odd, length_next, over_next}
 use Rattle.stop_gate.proofs.Sums.{sum_by-set, sum_by-here}
 use Rattle.stop_gate.proofs.PlaceFacts.{weight, weighs, IsAlike, alike, turning_alike, settled_alike, settled_turns, is_idle, turners_inside}

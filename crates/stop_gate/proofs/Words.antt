@@ -1,12 +1,11 @@
 -- The two words as numbers: what a step on a bit makes of them.
 use Rattle.std.proofs.Common.{◌≡◌, ℕ, ◌+◌, ◌-◌, ◌*◌, ◌/◌, ◌%◌, ◌^◌, ◌<◌, ◌≤◌, Bool, true, false, ◌∙◌, subst, arith, IsTrue, IsFalse}
-use native.Mathlib.Decide.{ℕ_discrete}
 use Rattle.std.proofs.lemmas.Bool.{le-leb}
 use Rattle.std.proofs.lemmas.Bool.Decides.{nat_tests}
 use borrow.Author.Tests.{leb-true, leb-false}
 use Rattle.std.proofs.lemmas.Nat.{or_block, or_shifted, and_mask}
 use Rattle.std.specs.Int.Bits.{bit_or, bit_and, or_zero_r, or_shifted_r}
-use Rattle.stop_gate.specs.Words.{stop_bit, low_part, over_bit, length_in, with_stop, as_out, turn_of, IsHome}
+use Rattle.stop_gate.specs.Words.{stop_bit, low_part, over_bit, length_in, with_stop}
 
 pub stop_true : (n : ℕ) → IsTrue (stop_bit n) → 2 ^ 63 ≤ n
 stop_true n e = leb-true (2 ^ 63) n e

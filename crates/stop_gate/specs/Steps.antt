@@ -1,5 +1,5 @@
 -- The kinds of step: each is atomic, on one word, and changes the view of the pass that makes it.
-use Rattle.std.specs.Prelude.{◌≡◌, ℕ, ◌+◌, ◌-◌, ◌<◌, ◌≤◌, Bool, false, IsTrue, if◌then◌else◌, ◌==◌, [], ◌∷◌, slice_index, slice_set, Option, Some}
+use Rattle.std.specs.Prelude.{◌≡◌, ℕ, ◌+◌, ◌-◌, ◌<◌, ◌≤◌, false, IsTrue, if◌then◌else◌, ◌==◌, [], ◌∷◌, slice_index, slice_set, Option, Some}
 use mathlib.Core.Option.{some}
 use lib.ListN.{get_elem?}
 use Rattle.atomic_table.specs.Table.{State, Me, Step}

@@ -1,5 +1,5 @@
 // A value of some length that is never over, and calls that have to succeed.
-ghost use Rattle.std.specs.Prelude.{◌≡◌, ◌≤◌, false};
+ghost use Rattle.std.specs.Prelude.{◌≡◌, ◌≤◌, false, IsFalse};
 ghost use Rattle.stop_gate.specs.Passes.{IsOf};
 
 use crate::{Alone, Enter, Gate, Held, Inside, Out, Raise, Seize, Stopping, Take, Turning};
@@ -125,6 +125,7 @@ pub fn take(rt: &impl Abort, gate: &Gate<Row>, pass: Inside<Row>) -> (Turning<Ro
     requires { IsOf gate.now pass }
     ensures gate { IsOf gate.now result.0 }
     ensures taken { result.0.view.taken ≡ result.1.length }
+    ensures over { IsFalse result.0.view.over }
 {
     let Take::Taken { turn, held } = gate.try_take(pass) else {
         panic!(rt; "the value is out")
