@@ -12,7 +12,7 @@ use Rattle.stop_gate.specs.declared.view.Place.TheVariants.{Out, Backing, Inside
 use Rattle.stop_gate.specs.Words.{low_part, stop_bit, with_stop}
 use Rattle.stop_gate.specs.Places.{is_counted, is_stopping, is_inside, is_alone, has_turn}
 use Rattle.stop_gate.specs.GateRule.{GateRule}
-use Rattle.stop_gate.specs.Steps.{moved, Enters, Leaves, Raises, Seizes, Lowers}
+use Rattle.stop_gate.specs.Steps.{Stays, moved, Enters, Leaves, Raises, Seizes, Lowers}
 use Rattle.stop_gate.proofs.Words.{stop_true, stop_false, stop_set, or_stop, and_low}
 use Rattle.stop_gate.proofs.Sums.{sum_by-set, sum_by-here}
 use Rattle.stop_gate.proofs.PlaceFacts.{weight, weighs, alone_stopping, inside_counted}
@@ -62,7 +62,7 @@ module _ {C O : Type 0} (held : Held C O) (of : O) where
       let gate = gate_is held of s r in
       let one = r.one_stops in
       let most = few held of s r in
-      (w, keeps, tt, kept, record { after = refl; step = step_on held of s r 0 id ((n + 1) % 2 ^ 64) me.0 w me.1 keeps (λ g. g + 1) here refl refl (omega arith) kept })
+      (w, keeps, tt, kept, record { after = refl; step = step_on held of s r 0 id ((n + 1) % 2 ^ 64) me.0 w me.1 keeps (λ g. g + 1) Stays here refl (omega arith) refl kept })
 
   -- back and leave
   pub leaves : (slots id : ℕ) (me : Me (Option C) (View O)) → weight (is_counted me.0.at) ≡ 1 → weight (is_stopping me.0.at) ≡ 0 → weight (is_alone me.0.at) ≡ 0 → weight (has_turn me.0.at) ≡ 0
@@ -81,7 +81,7 @@ module _ {C O : Type 0} (held : Held C O) (of : O) where
       (omega (arith, sum is_counted, sum is_stopping))
       (omega (arith, sum is_stopping))
       (λ some_alone. let l = r.alone (omega (arith, sum is_alone)) in omega (arith, sum is_inside)) in
-      (w, keeps, tt, kept, record { after = refl; counted = omega arith; step = step_on held of s r 0 id n' v w me.1 keeps (λ g. g - 1) here refl refl (omega arith) kept })
+      (w, keeps, tt, kept, record { after = refl; counted = omega arith; step = step_on held of s r 0 id n' v w me.1 keeps (λ g. g - 1) Stays here refl (omega arith) refl kept })
 
   -- raise, by cases on the stop bit of the word found
   raise_at : (s : S) (r : Rule s) (id : ℕ) (me : Me (Option C) (View O)) → get_elem? s.views id ≡ some me.0 → me.0.at ≡ Out → get_or s.words 0 0 < 2 ^ 64 → (b : Bool) → stop_bit (get_or s.words 0 0) ≡ b
@@ -118,7 +118,7 @@ module _ {C O : Type 0} (held : Held C O) (of : O) where
       let n : ℕ = get_or s.words 0 0 in
       let w : View O = moved me.0 (cond (stop_bit n) Out Stopping) n in
       let kept = raise_at s r id me here out small (stop_bit n) refl in
-      (w, keeps, tt, kept, record { after = refl; step = step_on held of s r 0 id (bit_or n (2 ^ 63)) me.0 w me.1 keeps with_stop here refl refl (or_stop n (stop_bit n) refl small) kept })
+      (w, keeps, tt, kept, record { after = refl; step = step_on held of s r 0 id (bit_or n (2 ^ 63)) me.0 w me.1 keeps with_stop Stays here refl (or_stop n (stop_bit n) refl small) refl kept })
 
   -- seize, by cases on whether a pass counts
   seize_at : (s : S) (r : Rule s) (id : ℕ) (me : Me (Option C) (View O)) → get_elem? s.views id ≡ some me.0 → me.0.at ≡ Stopping → (b : Bool) → eqb (low_part (get_or s.words 0 0)) 0 ≡ b
@@ -153,7 +153,7 @@ module _ {C O : Type 0} (held : Held C O) (of : O) where
       let n : ℕ = get_or s.words 0 0 in
       let w : View O = moved me.0 (cond (eqb (low_part n) 0) Alone Stopping) n in
       let kept = seize_at s r id me here stopping (eqb (low_part n) 0) refl in
-      (w, keeps, tt, kept, record { after = refl; step = step_on held of s r 0 id n me.0 w me.1 keeps (λ g. g) here refl refl refl kept })
+      (w, keeps, tt, kept, record { after = refl; step = step_on held of s r 0 id n me.0 w me.1 keeps (λ g. g) Stays here refl refl refl kept })
 
   -- lower
   pub lowers : (slots id : ℕ) (me : Me (Option C) (View O)) → me.0.at ≡ Alone → Allows Rule slots id me 0 (λ n. bit_and n (2 ^ 63 - 1)) (Lowers held (step slots 0 (2 ^ 63 - 1) 0 none) me)
@@ -173,4 +173,4 @@ module _ {C O : Type 0} (held : Held C O) (of : O) where
       (omega (arith, bits, sum is_counted, sum is_stopping, was is_counted, was is_stopping))
       (omega (arith, sum is_stopping, was is_stopping))
       (λ some_alone. absurd (omega (arith, sum is_stopping, was is_stopping))) in
-      (w, keeps, tt, kept, record { after = refl; stood = stop_set n (omega (arith, was is_stopping)); step = step_on held of s r 0 id (bit_and n (2 ^ 63 - 1)) v w me.1 keeps low_part here refl refl bits kept })
+      (w, keeps, tt, kept, record { after = refl; stood = stop_set n (omega (arith, was is_stopping)); step = step_on held of s r 0 id (bit_and n (2 ^ 63 - 1)) v w me.1 keeps low_part Stays here refl bits refl kept })

@@ -3,8 +3,9 @@ use Rattle.std.proofs.Common.{◌≡◌, ℕ, zero, suc, ◌+◌, ◌-◌, ◌*�
 use Rattle.std.proofs.lemmas.List.{get_or-set_other}
 use Rattle.std.proofs.lemmas.List.Sums.{sum_by_push}
 use mathlib.Core.Option.{some, some-injective, some-ne-none}
+use mathlib.Core.Option as maybe
 use lib.ListN.{get_elem?}
-use Rattle.atomic_table.specs.Table.{State, Act, keeps, stepped, Splits, opening}
+use Rattle.atomic_table.specs.Table.{State, Act, keeps, stepped, homes_after, Splits, opening}
 use Rattle.atomic_table.proofs.Lists.{at_set, at_snoc}
 use Rattle.stop_gate.specs.declared.held.Held.{Ghosts as Held}
 use Rattle.stop_gate.specs.declared.view.View.{View}
@@ -31,9 +32,10 @@ module _ {C O : Type 0} (held : Held C O) (of : O) where
 
   -- a step that keeps the rule is one that contracts speak of
   pub step_on : (s : State (Option C) (View O)) (r : Rule s) (word id n' : ℕ) (v w : View O) (c : List (ℕ × Option C)) (a : Act (Option C)) (next : ℕ → ℕ)
-      → get_elem? s.views id ≡ some v → v.origin ≡ w.origin → get_or s.words word 0 ≡ w.last → n' ≡ next w.last → Rule (stepped s word n' id c w a)
-      → StepOn held word next v w
-  step_on s r word id n' v w c a next here same found is kept =
+      (slot : List (maybe.Option (Option C)) → List (maybe.Option (Option C)) → Type 0)
+      → get_elem? s.views id ≡ some v → get_or s.words word 0 ≡ w.last → n' ≡ next w.last → slot s.homes (homes_after s.homes c a) → Rule (stepped s word n' id c w a)
+      → StepOn held word next slot v w
+  step_on s r word id n' v w c a next slot here found is moves kept =
       let origin = (r.knows id v here).origin in
       record {
         before = s;
@@ -45,6 +47,7 @@ module _ {C O : Type 0} (held : Held C O) (of : O) where
         views = refl;
         found = found;
         words = ap (λ (k : ℕ). set s.words word k) is;
+        slots = moves;
       }
 
   -- the next view knows what the last one knew

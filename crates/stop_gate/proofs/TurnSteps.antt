@@ -15,7 +15,7 @@ use Rattle.stop_gate.specs.declared.view.Place.TheVariants.{Alone}
 use Rattle.stop_gate.specs.Words.{length_in, over_bit, as_out}
 use Rattle.stop_gate.specs.Places.{is_counted, is_stopping, is_inside, is_alone, has_turn, count_at}
 use Rattle.stop_gate.specs.GateRule.{Knows, AtHome, GateRule}
-use Rattle.stop_gate.specs.Steps.{moved, took, gave, turning, Takes, Gives}
+use Rattle.stop_gate.specs.Steps.{Stays, MovesOut, MovesIn, moved, took, gave, turning, Takes, Gives}
 use Rattle.stop_gate.proofs.Words.{or_one_even, or_one_odd, length_next, over_next}
 use Rattle.stop_gate.proofs.Sums.{sum_by-set, sum_by-here}
 use Rattle.stop_gate.proofs.PlaceFacts.{weight, weighs, IsAlike, alike, turning_alike, settled_alike, settled_turns, is_idle, turners_inside}
@@ -116,10 +116,19 @@ module _ {C O : Type 0} (held : Held C O) (of : O) where
         ap (λ (hs : List (maybe.Option (Option C))). get_elem? hs 0) h.lies,
         kept,
         record {
+          even = λ _. record {
+              value = c;
+              told = h.told;
+              origin = h.origin ∙ sym known.origin;
+              seen = known.seen;
+              over = known.over;
+              after = refl;
+              step = step_on held of s r 1 id (bit_or n 1) v w me.1 (takes 0 y) as_out (MovesOut c) here refl (bits ∙ omega arith)
+                  (h.lies, ap (λ (hs : List (maybe.Option (Option C))). set hs 0 none) h.lies) kept;
+            };
           odd = λ odd. absurd (omega arith);
-          even = λ _. record { value = c; told = h.told; origin = h.origin ∙ sym known.origin; seen = known.seen; over = known.over; after = refl };
+          looks = λ odd. absurd (omega arith);
           alone = λ _. even;
-          step = step_on held of s r 1 id (bit_or n 1) v w me.1 (takes 0 y) as_out here refl refl (bits ∙ omega arith) kept;
         },
       )
   taken_at slots id me no_turn one_turn s r here (no odd) =
@@ -140,10 +149,10 @@ module _ {C O : Type 0} (held : Held C O) (of : O) where
         tt,
         kept,
         record {
-          odd = λ _. refl;
           even = λ even. absurd (odd even);
+          odd = λ _. refl;
+          looks = λ _. step_on held of s r 1 id (bit_or n 1) v w me.1 keeps as_out Stays here refl (bits ∙ omega arith) refl kept;
           alone = λ alone. even_alone s r id v here alone;
-          step = step_on held of s r 1 id (bit_or n 1) v w me.1 keeps as_out here refl refl (bits ∙ omega arith) kept;
         },
       )
 
@@ -167,11 +176,12 @@ module _ {C O : Type 0} (held : Held C O) (of : O) where
       let t = sum_by-set (weighs has_turn) s.views id v w here in
       let mine = sum_by-here (weighs has_turn) s.views id v here in
       let none_left = settled_turns v.at in
-      let lies = ap (λ (cs : List (ℕ × Option C)). put_back s.homes cs) holds ∙ set_one s.homes (some (Some c)) r.one_slot in
+      let lies : (d : C) → me.1 ≡ (0, Some d) ∷ [] → put_back s.homes me.1 ≡ some (Some d) ∷ [] =
+          λ d e. ap (λ (cs : List (ℕ × Option C)). put_back s.homes cs) e ∙ set_one s.homes (some (Some d)) r.one_slot in
       let kept = turn_keeps s r id new v w me.1 gives here (settled_alike v.at) refl
       (omega arith)
-      (ap length lies)
-      (λ _. record { value = c; lies = lies; told = (long, is_over_new); origin = same ∙ known.origin })
+      (ap length (lies c holds))
+      (λ _. record { value = c; lies = lies c holds; told = (long, is_over_new); origin = same ∙ known.origin })
       (omega arith)
       (λ e. sym is_over_new ∙ over_too (was.1 ∙ e))
       (record { seen = omega arith; over = λ e. e; taken = λ one. absurd (let is = ap weight one in omega arith); origin = known.origin })
@@ -185,6 +195,6 @@ module _ {C O : Type 0} (held : Held C O) (of : O) where
           odd = omega arith;
           taken = sym was.0;
           was_over = sym was.1;
-          step = step_on held of s r 1 id new v w me.1 gives (λ _. new) here refl refl refl kept;
+          step = λ d e. step_on held of s r 1 id new v w me.1 gives (λ _. new) (MovesIn d) here refl refl (lies d e) kept;
         },
       )

@@ -1,5 +1,6 @@
 -- What contracts see of a gate and of its passes.
-use Rattle.std.specs.Prelude.{◌≡◌, ℕ, ◌+◌, ◌≤◌, IsTrue, [], ◌∷◌, Option, None}
+use Rattle.std.specs.Prelude.{◌≡◌, ℕ, ◌+◌, ◌≤◌, IsTrue, List, [], ◌∷◌, Option, None}
+use mathlib.Core.Option as maybe
 use Rattle.atomic_table.specs.Seated.{TableId}
 use Rattle.atomic_table.specs.declared.shared.Seat.{Seat}
 use Rattle.stop_gate.specs.declared.held.Held.{Ghosts as Held}
@@ -65,8 +66,9 @@ module _ {C O : Type 0} (held : Held C O) where
   abbrev pub StepsOnGate : (ℕ → ℕ) → Pass O → Pass O → Type 0
   StepsOnGate next old new = StepOnGate held next old.view new.view
 
-  abbrev pub StepsOnTurn : (ℕ → ℕ) → Pass O → Pass O → Type 0
-  StepsOnTurn next old new = StepOnTurn held next old.view new.view
+  abbrev pub StepsOnTurn : (ℕ → ℕ)
+      → (List (maybe.Option (Option C)) → List (maybe.Option (Option C)) → Type 0) → Pass O → Pass O → Type 0
+  StepsOnTurn next slot old new = StepOnTurn held next slot old.view new.view
 
   -- the value goes on from what the pass knows of it
   pub record GoesOn (least : ℕ) (pass : Pass O) (value : C) : Type 0 where

@@ -1,6 +1,7 @@
 -- The kinds of step: each is atomic, on one word, and changes the view of the pass that makes it.
-use Rattle.std.specs.Prelude.{◌≡◌, ℕ, ◌+◌, ◌-◌, ◌<◌, ◌≤◌, false, IsTrue, if◌then◌else◌, ◌==◌, [], ◌∷◌, slice_index, slice_set, Option, Some}
-use mathlib.Core.Option.{some}
+use Rattle.std.specs.Prelude.{◌≡◌, ℕ, ◌+◌, ◌-◌, ◌<◌, ◌≤◌, false, IsTrue, if◌then◌else◌, ◌==◌, [], ◌∷◌, slice_index, slice_set, List, Option, Some}
+use mathlib.Core.Option.{some, none}
+use mathlib.Core.Option as maybe
 use lib.ListN.{get_elem?}
 use Rattle.atomic_table.specs.Table.{State, Me, Step}
 use Rattle.stop_gate.specs.declared.held.Held.{Ghosts as Held}
@@ -58,26 +59,42 @@ module _ {O : Type 0} where
   abbrev pub another : View O → View O
   another v = new_view 0 v.origin
 
+module _ {C : Type 0} where
+  -- what a step does to the slot: it stays as it is
+  abbrev pub Stays : List (maybe.Option (Option C)) → List (maybe.Option (Option C)) → Type 0
+  Stays old new = new ≡ old
+
+  -- the value moves out of it
+  abbrev pub MovesOut : C → List (maybe.Option (Option C)) → List (maybe.Option (Option C)) → Type 0
+  MovesOut value old new = (old ≡ some (Some value) ∷ []) × (new ≡ none ∷ [])
+
+  -- the value moves into it
+  abbrev pub MovesIn : C → List (maybe.Option (Option C)) → List (maybe.Option (Option C)) → Type 0
+  MovesIn value old new = new ≡ some (Some value) ∷ []
+
 -- one step on a word, by which the view v becomes w; the rule holds right before and right after it
 pub record StepOn {C O : Type 0} (held : Held C O) (word : ℕ) (next : ℕ → ℕ)
+    (slot : List (maybe.Option (Option C)) → List (maybe.Option (Option C)) → Type 0)
     (v w : View O) : Type 0 where
   pub before : State (Option C) (View O)
   pub after : State (Option C) (View O)
   pub rule_before : GateRule held v.origin before
   pub rule_after : GateRule held v.origin after
+  -- this word changes, and not the other
+  pub found : slice_index before.words word ≡ w.last
+  pub words : after.words ≡ slice_set before.words word (next w.last)
+  pub slots : slot before.homes after.homes
   -- this view changes, and no other
   pub place : ℕ
   pub was : get_elem? before.views place ≡ some v
   pub views : after.views ≡ slice_set before.views place w
-  -- this word changes, and not the other
-  pub found : slice_index before.words word ≡ w.last
-  pub words : after.words ≡ slice_set before.words word (next w.last)
 
 module _ {C O : Type 0} (held : Held C O) where
   abbrev pub StepOnGate : (ℕ → ℕ) → View O → View O → Type 0
-  StepOnGate = StepOn held 0
+  StepOnGate next = StepOn held 0 next Stays
 
-  abbrev pub StepOnTurn : (ℕ → ℕ) → View O → View O → Type 0
+  abbrev pub StepOnTurn : (ℕ → ℕ) → (List (maybe.Option (Option C)) → List (maybe.Option (Option C)) → Type 0)
+      → View O → View O → Type 0
   StepOnTurn = StepOn held 1
 
 -- each kind speaks of the step, the seat before, the word found and the seat after
@@ -118,14 +135,15 @@ module _ {C O : Type 0} (held : Held C O) (st : Step (Option C)) (m : Me (Option
     pub seen : m.0.seen ≤ length_in n
     pub over : IsTrue m.0.over → IsTrue (over_bit n)
     pub after : m' ≡ (took m.0 n, (0, Some value) ∷ m.1)
+    pub step : StepOnTurn held as_out (MovesOut value) m.0 m'.0
 
   -- take: TURN made odd; the pass has the turn, or stays where it was where the word found was odd
   pub record Takes : Type 0 where
-    pub odd : IsOut n → m' ≡ (moved m.0 m.0.at n, m.1)
     pub even : IsHome n → Took
+    pub odd : IsOut n → m' ≡ (moved m.0 m.0.at n, m.1)
+    pub looks : IsOut n → StepOnTurn held as_out Stays m.0 m'.0
     -- for a pass that is alone it never was
     pub alone : m.0.at ≡ Alone → IsHome n
-    pub step : StepOnTurn held as_out m.0 m'.0
 
   -- give: TURN as it tells of the value given; the word found told of it as it was taken
   pub record Gives : Type 0 where
@@ -133,4 +151,5 @@ module _ {C O : Type 0} (held : Held C O) (st : Step (Option C)) (m : Me (Option
     pub odd : IsOut n
     pub taken : length_in n ≡ m.0.taken
     pub was_over : over_bit n ≡ m.0.over
-    pub step : StepOnTurn held (λ _. st.first) m.0 m'.0
+    pub step : (value : C) → m.1 ≡ (0, Some value) ∷ []
+        → StepOnTurn held (λ _. st.first) (MovesIn value) m.0 m'.0

@@ -3,6 +3,7 @@
 -- TURN is odd while the value is out. Its bits 1 to 62 are the length of the value that is at home
 -- or was taken last, and bit 63 is set where that value is over.
 use Rattle.std.specs.Prelude.{ℕ, ◌+◌, ◌*◌, ◌/◌, ◌%◌, ◌^◌, ◌≡◌, Bool, nat_le, if◌then◌else◌}
+use Rattle.stop_gate.specs.declared.held.Held.{Ghosts as Held}
 
 -- bits 0 to 62 of GATE
 abbrev pub low_part : ℕ → ℕ
@@ -36,6 +37,6 @@ over_bit turn = nat_le (2 ^ 63) turn
 abbrev pub as_out : ℕ → ℕ
 as_out turn = turn / 2 * 2 + 1
 
--- TURN for a value at home
-abbrev pub turn_of : ℕ → Bool → ℕ
-turn_of length over = 2 * length + (if over then 2 ^ 63 else 0)
+-- TURN for this value at home
+abbrev pub turn_of : {C O : Type 0} → Held C O → C → ℕ
+turn_of held value = 2 * held.length value + (if held.over value then 2 ^ 63 else 0)

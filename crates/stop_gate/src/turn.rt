@@ -4,6 +4,7 @@ ghost use Rattle.stop_gate.specs.Words.{length_in, over_bit, IsOut, IsHome, as_o
 ghost use Rattle.stop_gate.specs.Passes.{IsOf, IsNext, KnowsTheSame, StepsOnTurn, GoesOn, HasSeen};
 ghost use Rattle.stop_gate.specs.Answers.{taken, taken_at, IfTaken, IfHeld};
 ghost use Rattle.stop_gate.specs.GateRule.{Tells};
+ghost use Rattle.stop_gate.specs.Steps.{Stays, MovesOut, MovesIn};
 
 use crate::answers::Take;
 use crate::gate::Gate;
@@ -20,8 +21,9 @@ impl<C: Held> Gate<C> {
         requires gate { IsOf self.now pass }
         ensures gate { IsOf self.now (taken result) }
 
-        // One step, which sets bit 0 of TURN.
-        ensures step { StepsOnTurn C.Held as_out pass (taken result) }
+        // One step, which makes TURN odd. The value moves out of the slot, or is out already.
+        ensures takes { IfTaken result (λ p held. StepsOnTurn C.Held as_out (MovesOut held) pass p) }
+        ensures looks { IfHeld result (λ word p. StepsOnTurn C.Held as_out Stays pass p) }
         ensures next { IsNext pass (taken_at result) (taken result) }
 
         // The value has the gate's origin and goes on from what the pass had seen.
@@ -58,8 +60,8 @@ impl<C: Held> Gate<C> {
         requires gate { IsOf self.now pass }
         ensures gate { IsOf self.now result.0 }
 
-        // One step, which sets bit 0 of TURN.
-        ensures step { StepsOnTurn C.Held as_out pass result.0 }
+        // One step, which makes TURN odd. The value moves out of the slot.
+        ensures step { StepsOnTurn C.Held as_out (MovesOut result.1) pass result.0 }
         ensures next { IsNext pass Place.AloneTurning result.0 }
 
         // The value has the gate's origin and goes on from what the pass had seen.
@@ -86,8 +88,8 @@ impl<C: Held> Gate<C> {
         requires value { GoesOn C.Held turn.view.taken turn held }
         ensures gate { IsOf self.now result }
 
-        // One step, after which TURN tells of the value.
-        ensures step { StepsOnTurn C.Held (λ _. turn_of (C.length held) (C.over held)) turn result }
+        // One step, after which TURN tells of the value. The value moves into the slot.
+        ensures step { StepsOnTurn C.Held (λ _. turn_of C.Held held) (MovesIn held) turn result }
         ensures next { IsNext turn Place.Inside result }
         ensures seen { HasSeen C.Held result held }
         ensures taken { result.view.taken ≡ turn.view.taken }
@@ -110,8 +112,8 @@ impl<C: Held> Gate<C> {
         requires value { GoesOn C.Held turn.view.taken turn held }
         ensures gate { IsOf self.now result }
 
-        // One step, after which TURN tells of the value.
-        ensures step { StepsOnTurn C.Held (λ _. turn_of (C.length held) (C.over held)) turn result }
+        // One step, after which TURN tells of the value. The value moves into the slot.
+        ensures step { StepsOnTurn C.Held (λ _. turn_of C.Held held) (MovesIn held) turn result }
         ensures next { IsNext turn Place.Alone result }
         ensures seen { HasSeen C.Held result held }
         ensures taken { result.view.taken ≡ turn.view.taken }

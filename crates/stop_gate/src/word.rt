@@ -18,7 +18,7 @@ pub(crate) const LOW: u64 = 0x7fff_ffff_ffff_ffff;
 
 /// TURN for this value at home.
 pub(crate) fn word_of<C: Held>(held: &C) -> u64
-    ensures value { result ≡ turn_of (C.length held.now) (C.over held.now) }
+    ensures value { result ≡ turn_of C.Held held.now }
     ensures home { IsHome result }
     ensures length { length_in result ≡ C.length held.now }
     ensures over { over_bit result ≡ C.over held.now }

@@ -2,7 +2,7 @@ use Rattle.std.proofs.Common.{rules, ap, sym, subst, ℕ, ◌∙◌, ◌∷◌, 
 use Rattle.atomic_table.specs.Table.{rest}
 use Rattle.stop_gate.specs.declared.view.View.{View}
 use Rattle.stop_gate.specs.Places.{has_turn}
-use Rattle.stop_gate.specs.Steps.{StepOnTurn}
+use Rattle.stop_gate.specs.Steps.{StepOnTurn, MovesIn}
 use Rattle.stop_gate.proofs.TurnSteps.{gives_turn}
 use Rattle.stop_gate.proofs.gate.Gate.give.Goals as goal
 
@@ -25,7 +25,9 @@ swap-requires g c =
 
 pub returns-clause-step : goal.returns-clause-step
 returns-clause-step g c =
-    let view = ap (λ m. m.0) c.exchange.ensures.3 ∙ ap (λ p. p.view) c.turn.view_is in
+    let e = c.exchange.ensures.3 in
+    let holds = ap (λ m. m.1) e ∙ ap (λ cs. (0, Some c.args.held) ∷ rest cs) c.turn.invariant.1 in
+    let view = ap (λ m. m.0) e ∙ ap (λ p. p.view) c.turn.view_is in
     let word = c.word_of-word.ensures.value in
-    let P : ℕ × View _ → Type 0 = λ z. StepOnTurn g.C.Held (λ _. z.0) z.1 c.swap.new.seat.me.0 in
-    subst P (λ i. (word i, view i)) c.swap.ensures.2.step
+    let P : ℕ × View _ → Type 0 = λ z. StepOnTurn g.C.Held (λ _. z.0) (MovesIn c.args.held) z.1 c.swap.new.seat.me.0 in
+    subst P (λ i. (word i, view i)) (c.swap.ensures.2.step c.args.held holds)
