@@ -12,7 +12,8 @@ use Rattle.stop_gate.specs.declared.view.Place.TheVariants.{Out, Backing, Inside
 use Rattle.stop_gate.specs.Words.{low_part, stop_bit, with_stop}
 use Rattle.stop_gate.specs.Places.{is_counted, is_stopping, is_inside, is_alone, has_turn}
 use Rattle.stop_gate.specs.GateRule.{GateRule}
-use Rattle.stop_gate.specs.Steps.{Stays, moved, Enters, Leaves, Raises, Seizes, Lowers}
+use Rattle.stop_gate.specs.Views.{moved}
+use Rattle.stop_gate.specs.Steps.{Stays, Enters, Leaves, Raises, Seizes, Lowers}
 use Rattle.stop_gate.proofs.Words.{stop_true, stop_false, stop_set, or_stop, and_low}
 use Rattle.stop_gate.proofs.Sums.{sum_by-set, sum_by-here}
 use Rattle.stop_gate.proofs.PlaceFacts.{weight, weighs, alone_stopping, inside_counted}

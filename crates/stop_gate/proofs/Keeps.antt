@@ -3,7 +3,6 @@ use Rattle.std.proofs.Common.{◌≡◌, ℕ, zero, suc, ◌+◌, ◌-◌, ◌*�
 use Rattle.std.proofs.lemmas.List.{get_or-set_other}
 use Rattle.std.proofs.lemmas.List.Sums.{sum_by_push}
 use mathlib.Core.Option.{some, some-injective, some-ne-none}
-use mathlib.Core.Option as maybe
 use lib.ListN.{get_elem?}
 use Rattle.atomic_table.specs.Table.{State, Act, keeps, stepped, homes_after, Splits, opening}
 use Rattle.atomic_table.proofs.Lists.{at_set, at_snoc}
@@ -13,8 +12,9 @@ use Rattle.stop_gate.specs.declared.view.Place.{Place}
 use Rattle.stop_gate.specs.declared.view.Place.TheVariants.{Out}
 use Rattle.stop_gate.specs.Words.{length_in, over_bit}
 use Rattle.stop_gate.specs.Places.{is_counted, is_stopping, is_inside, is_alone, has_turn, count_at}
-use Rattle.stop_gate.specs.GateRule.{Knows, AtHome, GateRule}
-use Rattle.stop_gate.specs.Steps.{StepOn, moved, with_less, another, new_view}
+use Rattle.stop_gate.specs.GateRule.{Slots, Knows, AtHome, GateRule}
+use Rattle.stop_gate.specs.Views.{moved, with_less, another, new_view}
+use Rattle.stop_gate.specs.Steps.{StepOn}
 use Rattle.stop_gate.proofs.Sums.{sum_by-set}
 use Rattle.stop_gate.proofs.PlaceFacts.{weight, weighs, counted_few}
 
@@ -32,7 +32,7 @@ module _ {C O : Type 0} (held : Held C O) (of : O) where
 
   -- a step that keeps the rule is one that contracts speak of
   pub step_on : (s : State (Option C) (View O)) (r : Rule s) (word id n' : ℕ) (v w : View O) (c : List (ℕ × Option C)) (a : Act (Option C)) (next : ℕ → ℕ)
-      (slot : List (maybe.Option (Option C)) → List (maybe.Option (Option C)) → Type 0)
+      (slot : Slots C → Slots C → Type 0)
       → get_elem? s.views id ≡ some v → get_or s.words word 0 ≡ w.last → n' ≡ next w.last → slot s.homes (homes_after s.homes c a) → Rule (stepped s word n' id c w a)
       → StepOn held word next slot v w
   step_on s r word id n' v w c a next slot here found is moves kept =

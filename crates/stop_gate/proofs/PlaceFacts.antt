@@ -4,7 +4,7 @@ use Rattle.stop_gate.specs.declared.view.View.{View}
 use Rattle.stop_gate.specs.declared.view.Place.{Place}
 use Rattle.stop_gate.specs.declared.view.Place.TheVariants.{Backing, Inside, Turning, Stopping, Alone, AloneTurning}
 use Rattle.stop_gate.specs.Places.{is_counted, is_stopping, is_inside, is_alone, has_turn, count_at}
-use Rattle.stop_gate.specs.Steps.{turning, settled}
+use Rattle.stop_gate.specs.Views.{turning, settled}
 use Rattle.stop_gate.proofs.Sums.{sum_by-one, sum_by-less, sum_by-add}
 
 abbrev pub weight : Bool → ℕ

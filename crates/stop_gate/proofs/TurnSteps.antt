@@ -15,7 +15,8 @@ use Rattle.stop_gate.specs.declared.view.Place.TheVariants.{Alone}
 use Rattle.stop_gate.specs.Words.{length_in, over_bit, as_out}
 use Rattle.stop_gate.specs.Places.{is_counted, is_stopping, is_inside, is_alone, has_turn, count_at}
 use Rattle.stop_gate.specs.GateRule.{Knows, AtHome, GateRule}
-use Rattle.stop_gate.specs.Steps.{Stays, MovesOut, MovesIn, moved, took, gave, turning, Takes, Gives}
+use Rattle.stop_gate.specs.Views.{moved, took, gave, turning}
+use Rattle.stop_gate.specs.Steps.{Stays, MovesOut, MovesIn, Takes, Gives}
 use Rattle.stop_gate.proofs.Words.{or_one_even, or_one_odd, length_next, over_next}
 use Rattle.stop_gate.proofs.Sums.{sum_by-set, sum_by-here}
 use Rattle.stop_gate.proofs.PlaceFacts.{weight, weighs, IsAlike, alike, turning_alike, settled_alike, settled_turns, is_idle, turners_inside}
@@ -117,15 +118,15 @@ module _ {C O : Type 0} (held : Held C O) (of : O) where
         kept,
         record {
           even = λ _. record {
-              value = c;
-              told = h.told;
-              origin = h.origin ∙ sym known.origin;
-              seen = known.seen;
-              over = known.over;
-              after = refl;
-              step = step_on held of s r 1 id (bit_or n 1) v w me.1 (takes 0 y) as_out (MovesOut c) here refl (bits ∙ omega arith)
-                  (h.lies, ap (λ (hs : List (maybe.Option (Option C))). set hs 0 none) h.lies) kept;
-            };
+            value = c;
+            told = h.told;
+            origin = h.origin ∙ sym known.origin;
+            seen = known.seen;
+            over = known.over;
+            after = refl;
+            step = step_on held of s r 1 id (bit_or n 1) v w me.1 (takes 0 y) as_out (MovesOut c) here refl (bits ∙ omega arith)
+                (h.lies, ap (λ (hs : List (maybe.Option (Option C))). set hs 0 none) h.lies) kept;
+          };
           odd = λ odd. absurd (omega arith);
           looks = λ odd. absurd (omega arith);
           alone = λ _. even;
@@ -177,7 +178,7 @@ module _ {C O : Type 0} (held : Held C O) (of : O) where
       let mine = sum_by-here (weighs has_turn) s.views id v here in
       let none_left = settled_turns v.at in
       let lies : (d : C) → me.1 ≡ (0, Some d) ∷ [] → put_back s.homes me.1 ≡ some (Some d) ∷ [] =
-          λ d e. ap (λ (cs : List (ℕ × Option C)). put_back s.homes cs) e ∙ set_one s.homes (some (Some d)) r.one_slot in
+      λ d e. ap (λ (cs : List (ℕ × Option C)). put_back s.homes cs) e ∙ set_one s.homes (some (Some d)) r.one_slot in
       let kept = turn_keeps s r id new v w me.1 gives here (settled_alike v.at) refl
       (omega arith)
       (ap length (lies c holds))

@@ -10,6 +10,10 @@ use Rattle.stop_gate.specs.Words as word
 use Rattle.stop_gate.specs.Words.{length_in, over_bit, IsHome}
 use Rattle.stop_gate.specs.Places.{is_counted, is_stopping, is_inside, is_alone, has_turn, count_at, spares}
 
+-- what lies in the slots of a table: none where a slot is out with a pass
+abbrev pub Slots : Type 0 → Type 0
+Slots C = List (maybe.Option (Option C))
+
 -- the two words
 abbrev pub gate : {S V : Type 0} → State S V → ℕ
 gate s = slice_index s.words 0
@@ -24,7 +28,7 @@ Tells held turn value =
 
 -- the slot has a value that began as this, and TURN tells of it
 pub record AtHome {C O : Type 0} (held : Held C O) (began : O) (turn : ℕ)
-    (slots : List (maybe.Option (Option C))) : Type 0 where
+    (slots : Slots C) : Type 0 where
   pub value : C
   pub lies : slots ≡ some (Some value) ∷ []
   pub told : Tells held turn value

@@ -1,6 +1,7 @@
 pub mod Words
 pub mod Places
 pub mod GateRule
+pub mod Views
 pub mod Steps
 pub mod Passes
 pub mod Answers

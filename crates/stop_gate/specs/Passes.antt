@@ -1,12 +1,13 @@
 -- What contracts see of a gate and of its passes.
-use Rattle.std.specs.Prelude.{◌≡◌, ℕ, ◌+◌, ◌≤◌, IsTrue, List, [], ◌∷◌, Option, None}
-use mathlib.Core.Option as maybe
+use Rattle.std.specs.Prelude.{◌≡◌, ℕ, ◌+◌, ◌≤◌, IsTrue, [], ◌∷◌, Option, None}
 use Rattle.atomic_table.specs.Seated.{TableId}
 use Rattle.atomic_table.specs.declared.shared.Seat.{Seat}
 use Rattle.stop_gate.specs.declared.held.Held.{Ghosts as Held}
 use Rattle.stop_gate.specs.declared.view.View.{View}
 use Rattle.stop_gate.specs.declared.view.Place.{Place}
-use Rattle.stop_gate.specs.Steps.{StepOnGate, StepOnTurn, new_view}
+use Rattle.stop_gate.specs.GateRule.{Slots}
+use Rattle.stop_gate.specs.Views.{new_view}
+use Rattle.stop_gate.specs.Steps.{StepOnGate, StepOnTurn}
 
 -- a pass: whose gate's it is, its number among the passes of that gate, and what it knows
 pub record Pass (O : Type 0) : Type 0 where
@@ -66,8 +67,7 @@ module _ {C O : Type 0} (held : Held C O) where
   abbrev pub StepsOnGate : (ℕ → ℕ) → Pass O → Pass O → Type 0
   StepsOnGate next old new = StepOnGate held next old.view new.view
 
-  abbrev pub StepsOnTurn : (ℕ → ℕ)
-      → (List (maybe.Option (Option C)) → List (maybe.Option (Option C)) → Type 0) → Pass O → Pass O → Type 0
+  abbrev pub StepsOnTurn : (ℕ → ℕ) → (Slots C → Slots C → Type 0) → Pass O → Pass O → Type 0
   StepsOnTurn next slot old new = StepOnTurn held next slot old.view new.view
 
   -- the value goes on from what the pass knows of it

@@ -1,81 +1,31 @@
 -- The kinds of step: each is atomic, on one word, and changes the view of the pass that makes it.
-use Rattle.std.specs.Prelude.{◌≡◌, ℕ, ◌+◌, ◌-◌, ◌<◌, ◌≤◌, false, IsTrue, if◌then◌else◌, ◌==◌, [], ◌∷◌, slice_index, slice_set, List, Option, Some}
+use Rattle.std.specs.Prelude.{◌≡◌, ℕ, ◌+◌, ◌-◌, ◌<◌, ◌≤◌, IsTrue, if◌then◌else◌, ◌==◌, [], ◌∷◌, slice_index, slice_set, Option, Some}
 use mathlib.Core.Option.{some, none}
-use mathlib.Core.Option as maybe
 use lib.ListN.{get_elem?}
 use Rattle.atomic_table.specs.Table.{State, Me, Step}
 use Rattle.stop_gate.specs.declared.held.Held.{Ghosts as Held}
 use Rattle.stop_gate.specs.declared.view.View.{View}
-use Rattle.stop_gate.specs.declared.view.Place.{Place}
-use Rattle.stop_gate.specs.declared.view.Place.TheVariants.{Out, Backing, Inside, Turning, Stopping, Alone, AloneTurning}
+use Rattle.stop_gate.specs.declared.view.Place.TheVariants.{Out, Backing, Inside, Stopping, Alone}
 use Rattle.stop_gate.specs.Words.{low_part, stop_bit, with_stop, length_in, over_bit, IsOut, IsHome, as_out}
-use Rattle.stop_gate.specs.GateRule.{GateRule, Tells}
-
--- where a pass is after it has taken the turn, and after it has given it back
-abbrev pub turning : Place → Place
-turning Inside = Turning
-turning Alone = AloneTurning
-turning at = at
-
-abbrev pub settled : Place → Place
-settled Turning = Inside
-settled AloneTurning = Alone
-settled at = at
-
-module _ {O : Type 0} where
-  -- the view after a step that found the word n and left the pass at this place
-  abbrev pub moved : View O → Place → ℕ → View O
-  moved v at n = record v { at = at; made = v.made + 1; last = n }
-
-  -- the view after a step that took the value, of which n told
-  abbrev pub took : View O → ℕ → View O
-  took v n = record (moved v (turning v.at) n) {
-    seen = length_in n;
-    taken = length_in n;
-    over = over_bit n;
-  }
-
-  -- the view after a step that gave the value back, of which `new` tells
-  abbrev pub gave : View O → ℕ → ℕ → View O
-  gave v new n = record (moved v (settled v.at) n) { seen = length_in new; over = over_bit new }
-
-  -- a view that has made no step and has seen nothing
-  abbrev pub new_view : ℕ → O → View O
-  new_view spare began = record {
-    at = Out;
-    seen = 0;
-    taken = 0;
-    over = false;
-    made = 0;
-    last = 0;
-    spare = spare;
-    origin = began;
-  }
-
-  -- a split: what it leaves of a view, and the view that it adds
-  abbrev pub with_less : View O → View O
-  with_less v = record v { spare = v.spare - 1 }
-
-  abbrev pub another : View O → View O
-  another v = new_view 0 v.origin
+use Rattle.stop_gate.specs.GateRule.{GateRule, Slots, Tells}
+use Rattle.stop_gate.specs.Views.{moved, took, gave}
 
 module _ {C : Type 0} where
   -- what a step does to the slot: it stays as it is
-  abbrev pub Stays : List (maybe.Option (Option C)) → List (maybe.Option (Option C)) → Type 0
+  abbrev pub Stays : Slots C → Slots C → Type 0
   Stays old new = new ≡ old
 
   -- the value moves out of it
-  abbrev pub MovesOut : C → List (maybe.Option (Option C)) → List (maybe.Option (Option C)) → Type 0
+  abbrev pub MovesOut : C → Slots C → Slots C → Type 0
   MovesOut value old new = (old ≡ some (Some value) ∷ []) × (new ≡ none ∷ [])
 
   -- the value moves into it
-  abbrev pub MovesIn : C → List (maybe.Option (Option C)) → List (maybe.Option (Option C)) → Type 0
+  abbrev pub MovesIn : C → Slots C → Slots C → Type 0
   MovesIn value old new = new ≡ some (Some value) ∷ []
 
 -- one step on a word, by which the view v becomes w; the rule holds right before and right after it
 pub record StepOn {C O : Type 0} (held : Held C O) (word : ℕ) (next : ℕ → ℕ)
-    (slot : List (maybe.Option (Option C)) → List (maybe.Option (Option C)) → Type 0)
-    (v w : View O) : Type 0 where
+    (slot : Slots C → Slots C → Type 0) (v w : View O) : Type 0 where
   pub before : State (Option C) (View O)
   pub after : State (Option C) (View O)
   pub rule_before : GateRule held v.origin before
@@ -83,6 +33,7 @@ pub record StepOn {C O : Type 0} (held : Held C O) (word : ℕ) (next : ℕ → 
   -- this word changes, and not the other
   pub found : slice_index before.words word ≡ w.last
   pub words : after.words ≡ slice_set before.words word (next w.last)
+  -- the slot
   pub slots : slot before.homes after.homes
   -- this view changes, and no other
   pub place : ℕ
@@ -93,8 +44,7 @@ module _ {C O : Type 0} (held : Held C O) where
   abbrev pub StepOnGate : (ℕ → ℕ) → View O → View O → Type 0
   StepOnGate next = StepOn held 0 next Stays
 
-  abbrev pub StepOnTurn : (ℕ → ℕ) → (List (maybe.Option (Option C)) → List (maybe.Option (Option C)) → Type 0)
-      → View O → View O → Type 0
+  abbrev pub StepOnTurn : (ℕ → ℕ) → (Slots C → Slots C → Type 0) → View O → View O → Type 0
   StepOnTurn = StepOn held 1
 
 -- each kind speaks of the step, the seat before, the word found and the seat after

@@ -14,7 +14,7 @@ use crate::word::{GATE, STOP};
 
 impl<C: Held> Gate<C> {
     /// Counts the pass: a `fetch_add` of 1 on GATE. Where the stop bit stood in the word found, the
-    /// pass is counted too, isn't inside, and has to go `back`.
+    /// pass isn't inside, though it counts, and has to go `back`.
     pub fn try_enter(&self, pass: Out<C>) -> Enter<C>
         requires gate { IsOf self.now pass }
         ensures gate { IsOf self.now (entered result) }
@@ -42,7 +42,8 @@ impl<C: Held> Gate<C> {
         }
     }
 
-    /// Counts a pass that was refused no more: a `fetch_sub` of 1 on GATE. It is outside then.
+    /// Takes a pass that was refused out of the count: a `fetch_sub` of 1 on GATE. It is outside
+    /// then.
     pub fn back(&self, pass: Backing<C>) -> Out<C>
         requires gate { IsOf self.now pass }
         ensures gate { IsOf self.now result }
@@ -60,7 +61,7 @@ impl<C: Held> Gate<C> {
         Out { seat }
     }
 
-    /// Counts a pass that is inside no more: a `fetch_sub` of 1 on GATE. It is outside then.
+    /// Takes a pass that is inside out of the count: a `fetch_sub` of 1 on GATE. It is outside then.
     pub fn leave(&self, pass: Inside<C>) -> Out<C>
         requires gate { IsOf self.now pass }
         ensures gate { IsOf self.now result }

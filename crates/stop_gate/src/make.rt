@@ -1,6 +1,6 @@
 //! How a gate is made.
 ghost use Rattle.std.specs.Prelude.{◌≡◌, ◌-◌, ◌<◌, ◌≤◌, [], ◌∷◌, IfOk, IfErr, vec_len, vec_capacity, All};
-ghost use Rattle.stop_gate.specs.Steps.{with_less};
+ghost use Rattle.stop_gate.specs.Views.{with_less};
 ghost use Rattle.stop_gate.specs.Passes.{IsOf, IsNewOf};
 
 use crate::gate::Gate;

@@ -4,7 +4,7 @@ use crate::view::View;
 use atomic_table::Seat;
 use std::marker::Model;
 
-/// A pass that is outside.
+/// A pass that is outside. It may enter, raise the stop bit, or close the gate.
 #[derive(Drop)]
 pub struct Out<C: Held> {
     pub(crate) seat: Seat<Option<C>, View<C::Origin>>,
@@ -21,7 +21,7 @@ impl<C: Held> Model for Out<C> {
     ghost invariant = { λ p. IsAt places.Out p.seat };
 }
 
-/// A pass that found the stop bit and has to go back.
+/// A pass that counts, found the stop bit as it entered, and has to go back.
 #[derive(Drop)]
 pub struct Backing<C: Held> {
     pub(crate) seat: Seat<Option<C>, View<C::Origin>>,
@@ -38,7 +38,7 @@ impl<C: Held> Model for Backing<C> {
     ghost invariant = { λ p. IsAt places.Backing p.seat };
 }
 
-/// A pass that may take its turn.
+/// A pass that is inside. It may take the value, or leave.
 #[derive(Drop)]
 pub struct Inside<C: Held> {
     pub(crate) seat: Seat<Option<C>, View<C::Origin>>,
@@ -55,7 +55,7 @@ impl<C: Held> Model for Inside<C> {
     ghost invariant = { λ p. IsAt places.Inside p.seat };
 }
 
-/// The one pass that has raised the stop bit.
+/// The one pass that has raised the stop bit. It looks until nobody is inside.
 #[derive(Drop)]
 pub struct Stopping<C: Held> {
     pub(crate) seat: Seat<Option<C>, View<C::Origin>>,
@@ -72,7 +72,7 @@ impl<C: Held> Model for Stopping<C> {
     ghost invariant = { λ p. IsAt places.Stopping p.seat };
 }
 
-/// That pass, with nobody inside.
+/// The pass that has raised the stop bit, and has found nobody inside.
 #[derive(Drop)]
 pub struct Alone<C: Held> {
     pub(crate) seat: Seat<Option<C>, View<C::Origin>>,
@@ -89,7 +89,7 @@ impl<C: Held> Model for Alone<C> {
     ghost invariant = { λ p. IsAt places.Alone p.seat };
 }
 
-/// A pass whose holder has the value.
+/// A pass that is inside, and whose holder has the value.
 #[derive(Drop)]
 pub struct Turning<C: Held> {
     pub(crate) seat: Seat<Option<C>, View<C::Origin>>,

@@ -19,7 +19,7 @@ pub struct Ruled<C> {
 impl<C: Held> TableRule<Option<C>, View<C::Origin>, About<C>> for Ruled<C> {
     ghost use Rattle.std.specs.Prelude.{◌-◌};
     ghost use Rattle.stop_gate.specs.GateRule.{GateRule};
-    ghost use Rattle.stop_gate.specs.Steps.{new_view};
+    ghost use Rattle.stop_gate.specs.Views.{new_view};
 
     ghost holds = { λ about. GateRule C.Held (C.origin about.held.value) };
 

@@ -1,5 +1,6 @@
 //! The kinds of step, and what each tells the pass that makes it.
-ghost use Rattle.stop_gate.specs.Steps.{Enters, Leaves, Raises, Seizes, Lowers, Takes, Gives, with_less, another};
+ghost use Rattle.stop_gate.specs.Views.{with_less, another};
+ghost use Rattle.stop_gate.specs.Steps.{Enters, Leaves, Raises, Seizes, Lowers, Takes, Gives};
 
 use crate::held::Held;
 use crate::view::View;

@@ -22,8 +22,8 @@ impl<C: Held> Gate<C> {
         ensures gate { IsOf self.now (taken result) }
 
         // One step, which makes TURN odd. The value moves out of the slot, or is out already.
-        ensures takes { IfTaken result (λ p held. StepsOnTurn C.Held as_out (MovesOut held) pass p) }
-        ensures looks { IfHeld result (λ word p. StepsOnTurn C.Held as_out Stays pass p) }
+        ensures step { IfTaken result (λ p held. StepsOnTurn C.Held as_out (MovesOut held) pass p) }
+        ensures look { IfHeld result (λ word p. StepsOnTurn C.Held as_out Stays pass p) }
         ensures next { IsNext pass (taken_at result) (taken result) }
 
         // The value has the gate's origin and goes on from what the pass had seen.

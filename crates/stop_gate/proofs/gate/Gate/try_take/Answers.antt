@@ -1,7 +1,7 @@
 use Rattle.std.proofs.Common.{rules, ap, sym, arith, ◌∙◌, ◌∷◌, Some}
 use Rattle.atomic_table.specs.Table.{rest}
 use Rattle.stop_gate.specs.Places.{has_turn}
-use Rattle.stop_gate.specs.Steps.{turning}
+use Rattle.stop_gate.specs.Views.{turning}
 use Rattle.stop_gate.proofs.PlaceFacts.{weight}
 use Rattle.stop_gate.proofs.TurnSteps.{takes_turn}
 use Rattle.stop_gate.proofs.gate.Gate.try_take.Goals as goal
