@@ -61,7 +61,8 @@ impl<C: Held> Gate<C> {
         Out { seat }
     }
 
-    /// Takes a pass that is inside out of the count: a `fetch_sub` of 1 on GATE. It is outside then.
+    /// Takes a pass that is inside out of the count: a `fetch_sub` of 1 on GATE. It is outside
+    /// then.
     pub fn leave(&self, pass: Inside<C>) -> Out<C>
         requires gate { IsOf self.now pass }
         ensures gate { IsOf self.now result }
