@@ -1,0 +1,9 @@
+pub mod Words
+pub mod Places
+pub mod GateRule
+pub mod Views
+pub mod Steps
+pub mod Passes
+pub mod Answers
+pub mod Closing
+pub mod Consequences
