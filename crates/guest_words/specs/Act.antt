@@ -18,7 +18,7 @@ use Rattle.guest_words.specs.declared.act.Act.TheVariants as hart_act_is
 use Rattle.guest_words.specs.Space.{bytes_at, low_bytes}
 use Rattle.guest_words.specs.State.{State, with_hart, with_closed, stored}
 use Rattle.guest_words.specs.HartAct.{hart_act}
-use Rattle.guest_words.specs.Calls.{reply_of}
+use Rattle.guest_words.specs.Calls.{reply_of, eio}
 use Rattle.guest_words.specs.CallChanges.{facts_of, answered, wakes, queued, exits, clones}
 
 -- the act of a hart in a state
@@ -31,7 +31,7 @@ pub data StateAct : Type 0 where
   Arrival : PointRef → StateAct
   -- a call that ends the run with this code
   End : ℕ → StateAct
-  -- no hart is there
+  -- no act: no slot has that number, or the reply can't come to this call
   Absent : StateAct
 
 -- the state with the store of an instruction made, if it has one
@@ -106,18 +106,18 @@ is_same_way way.Write way.Write = true
 is_same_way way.Close way.Close = true
 is_same_way _ _ = false
 
--- an answer is a number of bytes
+abbrev pub is_answer : ℤ → ℤ → Bool
+is_answer (pos m) (pos n) = m == n
+is_answer (negsuc m) (negsuc n) = m == n
+is_answer _ _ = false
+
+-- an answer is this number of bytes
 abbrev pub is_count : ℕ → ℤ → Bool
-is_count n (pos m) = m == n
-is_count n (negsuc m) = false
+is_count n answer = is_answer answer (pos n)
 
 -- a device failed: the answer is -EIO, and no byte went
 abbrev pub is_failure : Record → Bool
-is_failure r = is_eio r.answer && (length r.bytes == 0)
-  where
-    is_eio : ℤ → Bool
-    is_eio (pos m) = false
-    is_eio (negsuc m) = m == 4
+is_failure r = is_answer r.answer eio && (length r.bytes == 0)
 
 -- the bytes and the answer of a record, by its way
 abbrev pub is_served : Way → ℕ → ℕ → Record → State → Bool

@@ -117,7 +117,7 @@ abbrev pub wakes : ℕ → ℕ → ℕ → State → State
 wakes place most h s =
     with_hart (answered (pos (length (woken place most s.waiting)))) h (roused place most s)
 
--- a hart that will answer 0 once it is woken
+-- the hart waits behind its call, whose answer 0 is already there
 abbrev pub asleep : ℕ → Hart → Hart
 asleep place hart = record (answered (pos 0) hart) { state = Waiting place }
 
@@ -128,7 +128,7 @@ queued place h s =
 
 -- exit
 
--- the hart is gone with its pc and registers, and with it its frames
+-- the hart is gone, its pc and registers as they were, and its frames are closed
 abbrev pub left : ℕ → Slot → Slot
 left code slot =
     record {

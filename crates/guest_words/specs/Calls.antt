@@ -7,6 +7,7 @@ use Rattle.guest_words.specs.declared.call.Request.TheVariants.{Read, Write, Clo
 use Rattle.guest_words.specs.declared.call.Facts.{Facts}
 use Rattle.guest_words.specs.declared.call.Reply.{Reply}
 use Rattle.guest_words.specs.declared.call.Reply.TheVariants.{Value, Port, Gone, End, Queue, Rouse, Child, Blocked}
+use Rattle.guest_words.specs.declared.limits.TheConstants.{TRANSFER}
 use Rattle.guest_words.specs.Harts.{reg}
 
 -- a futex call by its op, of which the bit 128 counts for nothing
@@ -57,7 +58,7 @@ enosys = negsuc 37
 
 -- one read or write is cut to so many bytes
 abbrev pub cut : ℕ → ℕ
-cut size = min size 65536
+cut size = min size TRANSFER
 
 -- flags of clone
 abbrev pub has_flag : ℕ → ℕ → Bool

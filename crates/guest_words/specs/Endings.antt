@@ -7,6 +7,7 @@ use Rattle.guest_words.specs.declared.fault.FaultName.TheVariants.{FetchRights, 
 use Rattle.guest_words.specs.declared.ending.Ending.{Ending}
 use Rattle.guest_words.specs.declared.ending.Ending.TheVariants as ending
 use Rattle.guest_words.specs.declared.hart.Slot.{Slot}
+use Rattle.guest_words.specs.declared.limits.TheConstants.{RECORD_BYTES}
 use Rattle.guest_words.specs.Harts.{is_ready}
 use Rattle.guest_words.specs.State.{State, frames_at}
 use Rattle.guest_words.specs.Act.{StateAct, Fault, End, act_of}
@@ -17,7 +18,7 @@ record_bytes s = sum_by (λ r. length r.bytes) s.records
 
 -- the steps are the budget, or the records have passed their limit of bytes
 abbrev pub is_budget_spent : State → Bool
-is_budget_spent s = (s.steps == s.budget) || nat_lt 268435456 (record_bytes s)
+is_budget_spent s = (s.steps == s.budget) || nat_lt RECORD_BYTES (record_bytes s)
 
 -- no hart is ready
 abbrev pub is_stuck : State → Bool
@@ -46,13 +47,13 @@ abbrev pub is_at : ℕ → Option Slot → Bool
 is_at pc None = false
 is_at pc (Some slot) = slot.hart.pc == pc
 
--- the hart in a slot is about to make this fault
-abbrev pub faults : State → ℕ → FaultAt → Bool
-faults s h fault = is_at fault.pc (slice_get s.slots h) && is_fault fault.name (act_of s h)
+-- the hart in a slot, whose act this is, is about to make this fault
+abbrev pub faults : StateAct → State → ℕ → FaultAt → Bool
+faults act s h fault = is_at fault.pc (slice_get s.slots h) && is_fault fault.name act
 
--- the ending is due
-unfoldable pub ends_by : State → Ending → Bool
-ends_by s (ending.Exit h code) = is_end code (act_of s h)
-ends_by s (ending.Fault h fault) = faults s h fault && (frames_at s h == 0)
-ends_by s ending.Stuck = is_stuck s
-ends_by s ending.Budget = is_budget_spent s
+-- the ending is due, where the acts of the harts are these
+abbrev pub ends_by : (State → ℕ → StateAct) → State → Ending → Bool
+ends_by act s (ending.Exit h code) = is_end code (act s h)
+ends_by act s (ending.Fault h fault) = faults (act s h) s h fault && (frames_at s h == 0)
+ends_by act s ending.Stuck = is_stuck s
+ends_by act s ending.Budget = is_budget_spent s

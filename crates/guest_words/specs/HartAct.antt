@@ -10,6 +10,7 @@ use Rattle.guest_words.specs.declared.class.Class.TheVariants as class
 use Rattle.guest_words.specs.declared.act.Act.{Act}
 use Rattle.guest_words.specs.declared.act.Act.TheVariants.{Next, Fault, Call, Arrived}
 use Rattle.guest_words.specs.declared.act.Write.{Write}
+use Rattle.guest_words.specs.declared.limits.TheConstants.{FRAMES}
 use Rattle.guest_words.specs.Points.{active_at}
 use Rattle.guest_words.specs.Space.{Space, can_read, can_write, can_execute, number_at}
 use Rattle.guest_words.specs.Word.{word_of}
@@ -128,7 +129,7 @@ unfoldable pub act_of_inst : Space → Hart → Option Inst → Act
 act_of_inst m hart None = Fault Illegal
 act_of_inst m hart (Some inst) = act_of_class (class_of inst.op) m hart inst
 
--- the instruction at an address, where one can be fetched there
+-- the instruction at an address, where one can be fetched there: what `fetched_act` carries out
 abbrev pub inst_at : Space → ℕ → Option Inst
 inst_at m pc =
     if (pc % 4 == 0) && can_execute m pc 4 then instruction_of (number_at m pc 4) else None
@@ -143,7 +144,7 @@ fetched_act m hart =
 -- the point that a hart stands at: just after a jump and link to its entry, with room for a frame
 abbrev pub arrival_of : List Point → ℕ → Hart → Option PointRef
 arrival_of points frames hart =
-    if hart.arrived && nat_lt frames 16 then active_at points hart.pc else None
+    if hart.arrived && nat_lt frames FRAMES then active_at points hart.pc else None
 
 abbrev pub arrived_or : Option PointRef → Act → Act
 arrived_or (Some point) act = Arrived point

@@ -11,9 +11,9 @@ use Rattle.guest_words.specs.declared.hart.Hart.{Hart}
 use Rattle.guest_words.specs.declared.hart.Frame.{Frame}
 use Rattle.guest_words.specs.declared.hart.Slot.{Slot}
 
--- the value of a register
+-- the value of a register; x0 reads as 0
 abbrev pub reg : Hart → ℕ → ℕ
-reg hart r = slice_index hart.regs r
+reg hart r = if r == 0 then 0 else slice_index hart.regs r
 
 -- a register gets a value; a write to x0 is lost
 abbrev pub with_reg : Hart → ℕ → ℕ → Hart

@@ -165,7 +165,6 @@ pub record IsLoad (load : Load) : Type 0 where
   pub low : FIRST_ADDRESS ≤ load.address
   pub high : load.address + load.size ≤ LOADS_END
   pub readable : IsTrue load.rights.write → IsTrue load.rights.read
-  pub exclusive : IsFalse (load.rights.write && load.rights.exec)
 
 -- what the loads of an image keep together: no two clash, and their pages are within the limit
 pub record IsLoadList (loads : List Load) : Type 0 where

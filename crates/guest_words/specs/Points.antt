@@ -7,6 +7,7 @@ use Rattle.guest_words.specs.declared.point.Kind.TheVariants.{Blocking, Off}
 use Rattle.guest_words.specs.declared.point.Point.{Point}
 use Rattle.guest_words.specs.declared.point.PointRef.{PointRef}
 use Rattle.guest_words.specs.declared.fault.FaultName.{FaultName}
+use Rattle.guest_words.specs.declared.limits.TheConstants.{POINTS}
 
 -- a point is active where its kind isn't Off
 abbrev pub is_active : Point → Bool
@@ -29,5 +30,5 @@ code_of point name = point.ret
 
 -- at most 256 points, no two at one entry
 pub record IsPointList (points : List Point) : Type 0 where
-  pub count : length points ≤ 256
+  pub count : length points ≤ POINTS
   pub distinct : AllPairs (λ p q. p.entry ≢ q.entry) points

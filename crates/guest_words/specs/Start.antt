@@ -8,7 +8,7 @@ use Rattle.guest_words.specs.declared.point.Point.{Point}
 use Rattle.guest_words.specs.declared.hart.Hart.{Hart}
 use Rattle.guest_words.specs.declared.hart.HartState.TheVariants.{Ready, Empty}
 use Rattle.guest_words.specs.declared.hart.Slot.{Slot}
-use Rattle.guest_words.specs.declared.limits.TheConstants.{PAGE}
+use Rattle.guest_words.specs.declared.limits.TheConstants.{PAGE, STACK_FROM, STACK_END, STACK_POINTER}
 use Rattle.guest_words.specs.Image.{pages_of, contains}
 use Rattle.guest_words.specs.Space.{Space}
 use Rattle.guest_words.specs.State.{State}
@@ -37,7 +37,7 @@ loaded_cell loads address (Some load) =
 
 -- the stack: 1 MiB of zeros with read and write
 abbrev pub is_in_stack : ℕ → Bool
-is_in_stack address = nat_le 0x3ffff00000 address && nat_lt address 0x4000000000
+is_in_stack address = nat_le STACK_FROM address && nat_lt address STACK_END
 
 abbrev pub stack_cell : Cell
 stack_cell = record { byte = 0; rights = record { read = true; write = true; exec = false } }
@@ -59,7 +59,7 @@ gathered cells (suc n) = with_entry (gathered cells n) n (cells n)
 
 -- memory at the start; no page lies past the stack
 unfoldable pub memory_of : List Load → Space
-memory_of loads = gathered (cell_at loads) 0x4000000000
+memory_of loads = gathered (cell_at loads) STACK_END
 
 abbrev pub empty_hart : Hart
 empty_hart =
@@ -78,7 +78,7 @@ abbrev pub first_hart : ℕ → Hart
 first_hart entry =
     record empty_hart {
       pc = entry;
-      regs = slice_set (replicate 32 0) 2 0x3fffffffc0;
+      regs = slice_set (replicate 32 0) 2 STACK_POINTER;
       state = Ready;
       tid = 1;
     }

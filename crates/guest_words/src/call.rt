@@ -49,7 +49,8 @@ pub struct Facts {
     pub other_live: bool,
     /// Whether the descriptor can be used in the direction of the call.
     pub usable: bool,
-    /// Whether the range, after the cut to 65,536 bytes, can be read.
+    /// Whether the range, after the cut to 65,536 bytes, can be read; for a wait it is the 4 bytes
+    /// at its place.
     pub readable: bool,
     /// Whether that range can be written.
     pub writable: bool,

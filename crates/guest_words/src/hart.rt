@@ -13,7 +13,7 @@ pub enum HartState {
     Waiting(u64),
     /// It has exited, with this code.
     Gone(u64),
-    /// The slot never held a hart.
+    /// No hart is in the slot.
     Empty,
 }
 
@@ -31,7 +31,7 @@ pub struct Hart {
     pub pc: u64,
     /// x0 to x31; x0 is 0.
     pub regs: [u64; 32],
-    /// Whether its last instruction was a jump and link, which alone can arrive at a point.
+    /// Whether its last act was JAL or JALR; only then can it arrive at a point.
     pub arrived: bool,
     pub reservation: Option<Reserved>,
     pub state: HartState,

@@ -6,12 +6,12 @@ use Rattle.guest_words.specs.declared.fault.FaultName.{FaultName}
 use Rattle.guest_words.specs.declared.ending.Ending.{Ending}
 use Rattle.guest_words.specs.State.{State, frames_at, enter}
 use Rattle.guest_words.specs.Act.{StateAct, Ordinary, Fault, Request, Arrival, End}
-use Rattle.guest_words.specs.Endings.{is_budget_spent, is_fault, is_at}
+use Rattle.guest_words.specs.Endings.{is_budget_spent, is_fault, is_at, faults}
 use Rattle.plain_machine.specs.declared.entry.Entry.{Entry, Ended}
 use Rattle.plain_machine.specs.declared.entry.Entry.TheViews as v
 use Rattle.plain_machine.specs.Built.{seen}
 use Rattle.plain_machine.specs.After.{after, state_after}
-use Rattle.plain_machine.specs.Legal.{legal, legal_inside, is_licensed, ends_in, faults, may_act, is_arrival, is_of}
+use Rattle.plain_machine.specs.Legal.{legal, legal_inside, is_licensed, ends_in, may_act, is_arrival, is_of}
 use Rattle.plain_machine.proofs.Insides.{legal_rescue, legal-Rescued}
 
 and-right_false : (a b : Bool) → b ≡ false → (a && b) ≡ false
@@ -22,10 +22,10 @@ and-left_false : (a b : Bool) → a ≡ false → (a && b) ≡ false
 and-left_false a b absent = ap (λ c. c && b) absent
 
 -- the end of the inside, told from its parts
-ends_in-no_fault : (s : State) (h : ℕ) (fault : FaultAt) (frames : ℕ) → faults s h fault ≡ false → ends_in s h fault frames ≡ false
-ends_in-no_fault s h fault frames absent = and-right_false ((frames_at s h == frames + 1) && not (is_budget_spent s)) (faults s h fault) absent
+ends_in-no_fault : (s : State) (h : ℕ) (fault : FaultAt) (frames : ℕ) → faults (seen s h) s h fault ≡ false → ends_in s h fault frames ≡ false
+ends_in-no_fault s h fault frames absent = and-right_false ((frames_at s h == frames + 1) && not (is_budget_spent s)) (faults (seen s h) s h fault) absent
 
-faults-by_name : (s : State) (h : ℕ) (fault : FaultAt) → is_fault fault.name (seen s h) ≡ false → faults s h fault ≡ false
+faults-by_name : (s : State) (h : ℕ) (fault : FaultAt) → is_fault fault.name (seen s h) ≡ false → faults (seen s h) s h fault ≡ false
 faults-by_name s h fault absent = and-right_false (is_at fault.pc (slice_get s.slots h)) (is_fault fault.name (seen s h)) absent
 
 -- a call that would go on needs no rescue
@@ -51,13 +51,13 @@ no_licence-for_another_place s h fault frames elsewhere =
 
 -- a fault in a frame further in or out is another frame's
 pub no_licence-in_another_frame : (s : State) (h : ℕ) (fault : FaultAt) (frames : ℕ) → (frames_at s h == frames + 1) ≡ false → ends_in s h fault frames ≡ false
-no_licence-in_another_frame s h fault frames other = ap (λ b. b && not (is_budget_spent s) && faults s h fault) other
+no_licence-in_another_frame s h fault frames other = ap (λ b. b && not (is_budget_spent s) && faults (seen s h) s h fault) other
 
 -- a budget that is spent ends the run, and rescues nothing
 pub no_licence-past_the_budget : (s : State) (h : ℕ) (fault : FaultAt) (frames : ℕ) → is_budget_spent s ≡ true → ends_in s h fault frames ≡ false
 no_licence-past_the_budget s h fault frames spent =
-    ap (λ b. (frames_at s h == frames + 1) && not b && faults s h fault) spent
-    ∙ ap (λ b. b && faults s h fault) (and-right_false (frames_at s h == frames + 1) false refl)
+    ap (λ b. (frames_at s h == frames + 1) && not b && faults (seen s h) s h fault) spent
+    ∙ ap (λ b. b && faults (seen s h) s h fault) (and-right_false (frames_at s h == frames + 1) false refl)
 
 -- an inside with an entry of another hart, or with an ending, isn't one
 pub no_licence-of_another_hart : (e : Entry) (es : List Entry) (h frames : ℕ) (s : State) → is_of h e ≡ false → legal_inside (e ∷ es) h frames s ≡ false

@@ -27,7 +27,7 @@ use Rattle.plain_machine.specs.declared.entry.Entry.{Entry, Ran}
 use Rattle.plain_machine.specs.declared.entry.Entry.TheViews as v
 use Rattle.plain_machine.specs.Built.{seen, is_built, is_built_inst, is_built_at}
 use Rattle.plain_machine.specs.After.{after, ran, taken_back}
-use Rattle.plain_machine.specs.Legal.{legal, can_run, is_run, IsRun, ends_in, faults, is_arrival, may_act, is_licensed}
+use Rattle.plain_machine.specs.Legal.{legal, can_run, is_run, IsRun, ends_in, is_arrival, may_act, is_licensed}
 use Rattle.plain_machine.proofs.Insides.{legal-Rescued, after-Rescued}
 use Rattle.plain_machine.proofs.Fetches.{HasCells, each_has-cells, bytes_at-cells, fetched_act-word, inst_at-word}
 use Rattle.plain_machine.proofs.RunSteps.{counted, can_run-ordinary, ran-ordinary}

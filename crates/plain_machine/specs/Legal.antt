@@ -11,7 +11,7 @@ use Rattle.guest_words.specs.Harts.{is_ready}
 use Rattle.guest_words.specs.State.{State, frames_at, enter}
 use Rattle.guest_words.specs.CallChanges.{each_other}
 use Rattle.guest_words.specs.Act.{StateAct, Ordinary, Fault, Request, Arrival, End, Absent, fits}
-use Rattle.guest_words.specs.Endings.{is_budget_spent, is_stuck, is_fault, is_end, is_at}
+use Rattle.guest_words.specs.Endings.{is_budget_spent, is_stuck, faults, ends_by}
 use Rattle.plain_machine.specs.declared.entry.Entry.{Entry, Ran, Entered, Called, Rescued', Ended, Row_of-Entry, end_of-Entry, more_of-Entry}
 use Rattle.plain_machine.specs.Built.{seen}
 use Rattle.plain_machine.specs.After.{next, after, after_row, state_after}
@@ -56,17 +56,12 @@ can_run (suc count) h s =
     not (is_budget_spent s) && is_ready_at s h && is_ordinary (seen s h)
     && can_run count h (next h s)
 
--- the hart is about to make this fault
-abbrev pub faults : State → ℕ → FaultAt → Bool
-faults s h fault = is_at fault.pc (slice_get s.slots h) && is_fault fault.name (seen s h)
-
--- an ending may stand
+-- an ending may stand: it is due, the run goes on, and a hart that it names may act
 abbrev pub is_ending : State → Ending → Bool
-is_ending s (ending.Exit h code) = may_act s h && is_end code (seen s h)
-is_ending s (ending.Fault h fault) =
-    may_act s h && faults s h fault && (frames_at s h == 0)
-is_ending s ending.Stuck = is_going s && is_stuck s
-is_ending s ending.Budget = is_none s.ending && is_budget_spent s
+is_ending s (ending.Exit h code) = may_act s h && ends_by seen s (ending.Exit h code)
+is_ending s (ending.Fault h fault) = may_act s h && ends_by seen s (ending.Fault h fault)
+is_ending s ending.Stuck = is_going s && ends_by seen s ending.Stuck
+is_ending s ending.Budget = is_none s.ending && ends_by seen s ending.Budget
 
 -- an entry is of a hart, and no ending
 abbrev pub is_of : ℕ → Entry → Bool
@@ -79,7 +74,7 @@ is_of h (Ended ending) = false
 -- a rescued call ends at its fault, in the frame that it opened over so many others
 abbrev pub ends_in : State → ℕ → FaultAt → ℕ → Bool
 ends_in s h fault frames =
-    (frames_at s h == frames + 1) && not (is_budget_spent s) && faults s h fault
+    (frames_at s h == frames + 1) && not (is_budget_spent s) && faults (seen s h) s h fault
 
 unfoldable mutual
   pub legal : Entry → State → Bool
@@ -99,7 +94,7 @@ unfoldable mutual
       is_of h e && legal e s && nat_lt frames (frames_at (after e s) h)
       && legal_row rest h frames (after e s)
 
--- the same of a list of entries
+-- the same of a list of entries (proofs/Insides shows that they agree)
 abbrev pub legal_inside : List Entry → ℕ → ℕ → State → Bool
 legal_inside [] h frames s = true
 legal_inside (e ∷ es) h frames s =
