@@ -10,7 +10,7 @@ use Rattle.guest_words.specs.declared.hart.Slot.{Slot}
 use Rattle.guest_words.specs.declared.limits.TheConstants.{RECORD_BYTES}
 use Rattle.guest_words.specs.Harts.{is_ready}
 use Rattle.guest_words.specs.State.{State, frames_at}
-use Rattle.guest_words.specs.Act.{StateAct, Fault, End, act_of}
+use Rattle.guest_words.specs.Act.{StateAct, Fault, End}
 
 -- the bytes of all records
 abbrev pub record_bytes : State → ℕ
