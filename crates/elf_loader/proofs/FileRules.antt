@@ -1,6 +1,6 @@
 -- The first fault of a file, from the rules on its header, its program headers and its entry.
 use Rattle.std.proofs.Common.{◌≡◌, ℕ, List, ◌++◌, ◌∙◌}
-use Rattle.std.specs.Prelude.{Option, Some, None}
+use Rattle.std.specs.Prelude.{Some, None}
 use Rattle.guest_words.specs.declared.image.Image.{Image}
 use Rattle.guest_words.specs.declared.elf_fault.ElfFault.{ElfFault}
 use Rattle.guest_words.specs.Rules.{first_broken}

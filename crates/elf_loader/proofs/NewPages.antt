@@ -1,12 +1,12 @@
 -- A load that clashes with no earlier one shares at most its first and its last page with them.
-use Rattle.std.proofs.Common.{◌≡◌, ◌≢◌, ℕ, zero, suc, ◌+◌, ◌-◌, ◌*◌, ◌/◌, ◌<◌, ◌≤◌, List, [], ◌∷◌, ◌++◌, map, Bool, true, false, not, ◌||◌, ◌&&◌, cond, refl, sym, ap, ◌∙◌, arith}
-use Rattle.std.specs.Prelude.{nat_eq, ◌==◌}
-use Rattle.std.specs.List.{list_any, range_with_len, flat_map, count_by, sum_by}
+use Rattle.std.proofs.Common.{◌≡◌, ℕ, zero, suc, ◌+◌, ◌-◌, ◌/◌, ◌<◌, ◌≤◌, List, [], ◌∷◌, ◌++◌, map, Bool, true, false, not, ◌||◌, ◌&&◌, cond, refl, sym, ap, ◌∙◌, arith}
+use Rattle.std.specs.Prelude.{◌==◌}
+use Rattle.std.specs.List.{list_any, range_with_len, flat_map, sum_by}
 use Rattle.std.proofs.lemmas.Bool.{or_parts}
 use Rattle.std.proofs.lemmas.Bool.Decides.{nat_tests}
 use Rattle.std.proofs.lemmas.List.Sums.{sum_by-append}
 use Rattle.guest_words.specs.declared.image.Load.{Load}
-use Rattle.guest_words.specs.Image.{addresses_of, pages_of, contains, meets, clashes, page_count, same_rights}
+use Rattle.guest_words.specs.Image.{addresses_of, pages_of, contains, meets, clashes, page_count}
 use Rattle.guest_words.proofs.PageLaws.{contains-range, contains-pages, meets_at, byte_in_page, page_count-push}
 use Rattle.elf_loader.proofs.Places.{list_any-map}
 use Rattle.elf_loader.specs.declared.segment.Segment.{Segment}

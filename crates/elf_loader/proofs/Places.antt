@@ -1,11 +1,10 @@
 -- Where loads lie, by the first and the last page and by the ends of the bytes.
 use Rattle.std.proofs.Common.{◌≡◌, ℕ, ◌+◌, ◌-◌, ◌/◌, ◌<◌, ◌≤◌, Bool, ◌&&◌, ◌||◌, List, [], ◌∷◌, map, arith, refl, sym, ap, ◌∙◌, leb}
 use Rattle.std.specs.List.{list_any}
-use Rattle.std.specs.Prelude.{nat_lt}
 use Rattle.std.specs.Bool.{Decides}
 use Rattle.std.proofs.lemmas.Bool.Decides.{nat_tests, same_from_decides, Decides-and, Decides-like, Decides-ltb}
 use Rattle.guest_words.specs.declared.image.Load.{Load}
-use Rattle.guest_words.specs.Image.{addresses_of, pages_of, contains, meets, clashes}
+use Rattle.guest_words.specs.Image.{pages_of, contains, meets, clashes}
 use Rattle.elf_loader.specs.declared.segment.Segment.{Segment}
 use Rattle.elf_loader.specs.Segment.{load_of}
 use Rattle.guest_words.proofs.PageLaws.{contains-range, meets-ranges}

@@ -1,10 +1,9 @@
 -- The rules on the program headers, one header after the other.
-use Rattle.std.proofs.Common.{◌≡◌, ℕ, zero, suc, ◌+◌, ◌*◌, ◌<◌, ◌≤◌, ◌-◌, List, [], ◌∷◌, ◌++◌, refl, sym, ap, subst, ◌∙◌, arith, add-one}
-use Rattle.std.specs.Prelude.{Option, Some, None, if◌then◌else◌}
+use Rattle.std.proofs.Common.{◌≡◌, ℕ, zero, suc, ◌+◌, ◌<◌, ◌-◌, List, [], ◌∷◌, ◌++◌, refl, ap, ◌∙◌, arith, add-one}
+use Rattle.std.specs.Prelude.{Some, None, if◌then◌else◌}
 use Rattle.guest_words.specs.declared.elf_fault.ElfFault.{ElfFault}
-use Rattle.guest_words.specs.declared.image.Load.{Load}
-use Rattle.guest_words.specs.Rules.{Rule, first_broken}
-use Rattle.guest_words.specs.ElfFields.{header_place, e_phnum}
+use Rattle.guest_words.specs.Rules.{first_broken}
+use Rattle.guest_words.specs.ElfFields.{header_place}
 use Rattle.guest_words.specs.Image.{is_load, load_at, loads_before, rules_at, table_rules, page_count}
 use Rattle.guest_words.proofs.RuleLaws.{first_broken-append_none, first_broken-append_some}
 

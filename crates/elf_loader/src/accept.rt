@@ -13,7 +13,7 @@ use crate::table::{Segments, check_table};
 use guest_words::ElfFault;
 
 /// Tries the rule on the entry.
-fn check_entry(file: &[u8], segments: &[Segment]) -> Result<(), Broken>
+fn check_entry(file: &[u8], segments: &[Segment]) -> Result<(), Broken<ElfFault>>
     requires long { 64 ≤ length file.now }
     requires loads { map load_of segments.now ≡ loads_of file.now }
     ensures { Tells result (first_broken (entry_rules file.now)) }
@@ -24,7 +24,7 @@ fn check_entry(file: &[u8], segments: &[Segment]) -> Result<(), Broken>
 }
 
 /// Tries all rules, in their order. Answers the loads of a file that keeps them.
-pub fn accept(file: &[u8]) -> Result<Segments<'_>, Broken>
+pub fn accept(file: &[u8]) -> Result<Segments<'_>, Broken<ElfFault>>
     ensures rules { Tells result (first_fault file.now) }
     ensures loads { IfOk result (λ s. map load_of s.items ≡ loads_of file.now) }
     ensures long { IfOk result (λ _. 64 ≤ length file.now) }

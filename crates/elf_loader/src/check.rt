@@ -14,7 +14,7 @@ use guest_words::ElfFault;
 use guest_words::limits::{FIRST_ADDRESS, LOAD_PAGES, LOADS_END};
 
 /// Tries the rules on a program header of any type.
-pub fn check_segment(file: &[u8], place: usize) -> Result<ProgramHeader, Broken>
+pub fn check_segment(file: &[u8], place: usize) -> Result<ProgramHeader, Broken<ElfFault>>
     requires { place + 56 ≤ length file.now }
     ensures rules { Tells result (first_broken (segment_rules file.now place)) }
     ensures header { IfOk result (StandsAt file.now place) }
@@ -35,15 +35,17 @@ pub fn check_load<'a>(
     header: &ProgramHeader,
     earlier: &[Segment],
     pages: u64,
-) -> Result<(Segment<'a>, u64), Broken>
+) -> Result<(Segment<'a>, u64), Broken<ElfFault>>
     requires room { place + 56 ≤ length file.now }
     requires header { StandsAt file.now place header.now }
     requires filled { 0 < header.now.size }
     requires counted { pages ≡ page_count (map load_of earlier.now) }
     requires within { pages ≤ LOAD_PAGES }
-    ensures rules { Tells result (first_broken (load_rules file.now (map load_of earlier.now) place)) }
+    ensures rules { Tells result
+        (first_broken (load_rules file.now (map load_of earlier.now) place)) }
     ensures load { IfOk result (λ found. load_of found.0 ≡ load_at file.now place) }
-    ensures counted { IfOk result (λ found. found.1 ≡ page_count (map load_of earlier.now ++ load_at file.now place ∷ [])) }
+    ensures counted { IfOk result (λ found.
+        found.1 ≡ page_count (map load_of earlier.now ++ load_at file.now place ∷ [])) }
     ensures within { IfOk result (λ found. found.1 ≤ LOAD_PAGES) }
 {
     let bytes_end = u128::from(header.offset) + u128::from(header.file_size);

@@ -35,10 +35,17 @@ pub fn u64_at(file: &[u8], place: usize) -> u64
     LittleEndian::read_u64(&file[place..])
 }
 
-/// So many bytes of the file from an offset on, as far as it has them.
-pub fn part(file: &[u8], offset: u64, size: u64) -> &[u8]
-    ensures { result.now ≡ take size (drop offset file.now) }
+/// What follows an offset, and nothing past the end.
+pub fn tail(bytes: &[u8], offset: u64) -> &[u8]
+    ensures { result.now ≡ drop offset bytes.now }
 {
-    let rest = &file[file.len().min(offset as usize)..];
+    &bytes[bytes.len().min(offset as usize)..]
+}
+
+/// So many bytes from an offset on, as far as there are any.
+pub fn part(bytes: &[u8], offset: u64, size: u64) -> &[u8]
+    ensures { result.now ≡ take size (drop offset bytes.now) }
+{
+    let rest = tail(bytes, offset);
     &rest[..rest.len().min(size as usize)]
 }

@@ -13,7 +13,7 @@ use guest_words::limits::PROGRAM_HEADERS;
 const MAGIC: u32 = 0x464c_457f;
 
 /// Tries the rules on the file's header.
-pub fn check_header(file: &[u8]) -> Result<(), Broken>
+pub fn check_header(file: &[u8]) -> Result<(), Broken<ElfFault>>
     ensures rules { Tells result (first_broken (header_rules file.now)) }
     ensures long { OnOk result (64 ≤ length file.now) }
     ensures few { OnOk result (e_phnum file.now ≤ 64) }

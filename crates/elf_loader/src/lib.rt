@@ -8,7 +8,7 @@ mod header;
 mod load_fault;
 mod loader;
 mod program_header;
-mod rules;
+pub mod rules;
 mod segment;
 mod segment_list;
 mod table;

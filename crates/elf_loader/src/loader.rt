@@ -41,7 +41,9 @@ pub fn load(alloc: Global, bytes: &[u8]) -> Result<Image, LoadFault>
     ensures ok { IfOk result (IsImage bytes.now) }
 
     // A rule is named exactly where it is the first one that is broken.
-    ensures cause { (fault : ElfFault) (offset : ℕ) → IsErrOf result (LoadFault.Elf fault offset) ↔ (first_fault bytes.now ≡ Some (fault, offset)) }
+    ensures cause { (fault : ElfFault) (offset : ℕ)
+        → IsErrOf result (LoadFault.Elf fault offset)
+        ↔ (first_fault bytes.now ≡ Some (fault, offset)) }
     ensures memory { IsErrOf result LoadFault.Memory → first_fault bytes.now ≡ None }
 {
     match accept(bytes) {

@@ -71,7 +71,8 @@ impl Segment<'_> {
 
     /// Whether the two have a byte in common.
     fn shares_byte(&self, other: &Segment) -> bool
-        ensures { result ≡ meets (addresses_of (load_of self.now)) (addresses_of (load_of other.now)) }
+        ensures { result
+            ≡ meets (addresses_of (load_of self.now)) (addresses_of (load_of other.now)) }
     {
         self.address < other.address + other.size && other.address < self.address + self.size
     }
@@ -87,7 +88,8 @@ impl Segment<'_> {
     /// can only have its first and its last page.
     pub fn new_pages(&self, earlier: &[Segment]) -> u64
         requires { IsFalse (list_any (λ s. clashes (load_of s) (load_of self.now)) earlier.now) }
-        ensures count { page_count (map load_of earlier.now ++ load_of self.now ∷ []) ≡ page_count (map load_of earlier.now) + result }
+        ensures count { page_count (map load_of earlier.now ++ load_of self.now ∷ [])
+            ≡ page_count (map load_of earlier.now) + result }
         ensures small { result ≤ self.now.size }
     {
         let first = self.first_page();

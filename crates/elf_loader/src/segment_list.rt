@@ -22,7 +22,9 @@ pub fn any_clashes(segments: &[Segment], later: &Segment) -> bool
 
 /// Whether the page of an address can be executed.
 pub fn is_executable(segments: &[Segment], address: u64) -> bool
-    ensures { result ≡ list_any (λ s. contains (pages_of (load_of s)) (address / PAGE) && s.rights.exec) segments.now }
+    ensures { result ≡ list_any
+        (λ s. contains (pages_of (load_of s)) (address / PAGE) && s.rights.exec)
+        segments.now }
 {
     segments
         .iter()

@@ -12,6 +12,7 @@ use crate::fields::{u16_at, u64_at};
 use crate::rules::Broken;
 use crate::segment::Segment;
 use arrayvec::ArrayVec;
+use guest_words::ElfFault;
 
 /// The loads of a file, of which there are at most 64.
 pub type Segments<'a> = ArrayVec<Segment<'a>, 64>;
@@ -23,13 +24,15 @@ fn add_header<'a>(
     place: usize,
     segments: &mut Segments<'a>,
     pages: u64,
-) -> Result<u64, Broken>
+) -> Result<u64, Broken<ElfFault>>
     requires room { place + 56 ≤ length file.now }
     requires free { array_vec_len segments.old < 64 }
     requires counted { pages ≡ page_count (map load_of segments.old.items) }
     requires within { pages ≤ LOAD_PAGES }
-    ensures rules { Tells result (first_broken (rules_at file.now (map load_of segments.old.items) place)) }
-    ensures loads { OnOk result (map load_of segments.new.items ≡ map load_of segments.old.items ++ (if is_load file.now place then load_at file.now place ∷ [] else [])) }
+    ensures rules { Tells result
+        (first_broken (rules_at file.now (map load_of segments.old.items) place)) }
+    ensures loads { OnOk result (map load_of segments.new.items ≡ map load_of segments.old.items
+        ++ (if is_load file.now place then load_at file.now place ∷ [] else [])) }
     ensures counted { IfOk result (λ count. count ≡ page_count (map load_of segments.new.items)) }
     ensures within { IfOk result (λ count. count ≤ LOAD_PAGES) }
     ensures longer { array_vec_len segments.new ≤ array_vec_len segments.old + 1 }
@@ -44,7 +47,7 @@ fn add_header<'a>(
 }
 
 /// Tries the rules on the program headers, in their order.
-pub fn check_table(file: &[u8]) -> Result<Segments<'_>, Broken>
+pub fn check_table(file: &[u8]) -> Result<Segments<'_>, Broken<ElfFault>>
     requires long { 64 ≤ length file.now }
     requires few { e_phnum file.now ≤ 64 }
     requires inside { e_phoff file.now + 56 * e_phnum file.now ≤ length file.now }

@@ -1,6 +1,4 @@
 use Rattle.std.proofs.Common.{◌≡◌, ◌+◌, ◌*◌, ◌<◌, length, map, ap, sym, rules, ◌∙◌, arith}
-use Rattle.std.specs.Prelude.{Some, None}
-use Rattle.guest_words.specs.Rules.{first_broken}
 use Rattle.guest_words.specs.ElfFields.{e_phnum, header_place}
 use Rattle.guest_words.specs.Image.{page_count}
 use Rattle.elf_loader.specs.Segment.{load_of}

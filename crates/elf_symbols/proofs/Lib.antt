@@ -1,0 +1,5 @@
+pub mod Ends
+pub mod Entries
+pub mod PlaceLists
+pub mod SymbolRules
+pub mod Values

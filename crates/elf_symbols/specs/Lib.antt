@@ -1,0 +1,5 @@
+pub mod Find
+pub mod Listed
+pub mod SymFault
+pub mod SymbolFields
+pub mod SymbolTable

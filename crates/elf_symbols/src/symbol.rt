@@ -1,0 +1,11 @@
+use guest_words::Name;
+
+/// A function of a program.
+#[derive(Drop)]
+pub struct Symbol {
+    /// The guest address of its first instruction.
+    pub value: u64,
+    /// How many bytes it has, as the file says.
+    pub size: u64,
+    pub name: Name,
+}
