@@ -70,12 +70,8 @@ module _ {C O : Type 0} (held : Held C O) where
   abbrev pub StepsOnTurn : (ℕ → ℕ) → (Slots C → Slots C → Type 0) → Pass O → Pass O → Type 0
   StepsOnTurn next slot old new = StepOnTurn held next slot old.view new.view
 
-  -- the value goes on from what the pass knows of it
-  pub record GoesOn (least : ℕ) (pass : Pass O) (value : C) : Type 0 where
-    pub longer : least ≤ held.length value
+  -- the value goes on from what the pass has seen of it, and has the origin of the gate
+  pub record GoesOn (gate : Identity O) (pass : Pass O) (value : C) : Type 0 where
+    pub longer : pass.view.seen ≤ held.length value
     pub stays_over : IsTrue pass.view.over → IsTrue (held.over value)
-    pub origin : held.origin value ≡ pass.view.origin
-
-  -- the pass has seen the value as it is
-  abbrev pub HasSeen : Pass O → C → Type 0
-  HasSeen pass value = (pass.view.seen ≡ held.length value) × (pass.view.over ≡ held.over value)
+    pub origin : held.origin value ≡ gate.origin

@@ -13,7 +13,7 @@ impl<C: Held> Gate<C> {
     pub fn close(self, pass: Out<C>) -> Option<C>
         requires gate { IsOf self pass }
         ensures ended { Ends C.Held self.origin pass result }
-        ensures value { IfSome result (λ held. GoesOn C.Held pass.view.seen pass held) }
+        ensures value { IfSome result (λ held. GoesOn C.Held self pass held) }
     {
         let Gate { table } = self;
         let Out { seat } = pass;

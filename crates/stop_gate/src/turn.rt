@@ -1,7 +1,7 @@
 //! The turn: how a pass takes the value and gives it back.
-ghost use Rattle.std.specs.Prelude.{◌≡◌};
+ghost use Rattle.std.specs.Prelude.{◌≡◌, ◌≤◌, IsTrue};
 ghost use Rattle.stop_gate.specs.Words.{length_in, over_bit, IsOut, IsHome, as_out, turn_of};
-ghost use Rattle.stop_gate.specs.Passes.{IsOf, IsNext, KnowsTheSame, StepsOnTurn, GoesOn, HasSeen};
+ghost use Rattle.stop_gate.specs.Passes.{IsOf, IsNext, KnowsTheSame, StepsOnTurn, GoesOn};
 ghost use Rattle.stop_gate.specs.Answers.{taken, taken_at, IfTaken, IfHeld};
 ghost use Rattle.stop_gate.specs.GateRule.{Tells};
 ghost use Rattle.stop_gate.specs.Steps.{Stays, MovesOut, MovesIn};
@@ -27,10 +27,11 @@ impl<C: Held> Gate<C> {
         ensures next { IsNext pass (taken_at result) (taken result) }
 
         // The value has the gate's origin and goes on from what the pass had seen.
-        ensures value { IfTaken result (λ p held. GoesOn C.Held pass.view.seen pass held) }
-        ensures seen { IfTaken result (λ p held. HasSeen C.Held p held) }
+        ensures value { IfTaken result (λ p held. GoesOn C.Held self.now pass held) }
+        ensures seen { IfTaken result (λ p held. p.view.seen ≡ C.length held) }
         ensures taken { IfTaken result (λ p held. p.view.taken ≡ C.length held) }
-        ensures home { IfTaken result (λ p held. IsHome p.view.last) }
+        ensures over { IfTaken result (λ p held. p.view.over ≡ C.over held) }
+        ensures found { IfTaken result (λ p held. IsHome p.view.last) }
         ensures told { IfTaken result (λ p held. Tells C.Held p.view.last held) }
 
         // It is refused exactly where the value was out.
@@ -65,10 +66,11 @@ impl<C: Held> Gate<C> {
         ensures next { IsNext pass Place.AloneTurning result.0 }
 
         // The value has the gate's origin and goes on from what the pass had seen.
-        ensures value { GoesOn C.Held pass.view.seen pass result.1 }
-        ensures seen { HasSeen C.Held result.0 result.1 }
+        ensures value { GoesOn C.Held self.now pass result.1 }
+        ensures seen { result.0.view.seen ≡ C.length result.1 }
         ensures taken { result.0.view.taken ≡ C.length result.1 }
-        ensures home { IsHome result.0.view.last }
+        ensures over { result.0.view.over ≡ C.over result.1 }
+        ensures found { IsHome result.0.view.last }
         ensures told { Tells C.Held result.0.view.last result.1 }
     {
         let Alone { mut seat } = pass;
@@ -85,19 +87,22 @@ impl<C: Held> Gate<C> {
     /// value has to have the gate's origin, be no shorter than it was, and be over where it was.
     pub fn give(&self, turn: Turning<C>, held: C) -> Inside<C>
         requires gate { IsOf self.now turn }
-        requires value { GoesOn C.Held turn.view.taken turn held }
+        requires length { turn.view.taken ≤ C.length held }
+        requires over { IsTrue turn.view.over → IsTrue (C.over held) }
+        requires origin { C.origin held ≡ self.now.origin }
         ensures gate { IsOf self.now result }
 
         // One step, after which TURN tells of the value. The value moves into the slot.
         ensures step { StepsOnTurn C.Held (λ _. turn_of C.Held held) (MovesIn held) turn result }
         ensures next { IsNext turn Place.Inside result }
-        ensures seen { HasSeen C.Held result held }
+        ensures seen { result.view.seen ≡ C.length held }
         ensures taken { result.view.taken ≡ turn.view.taken }
+        ensures over { result.view.over ≡ C.over held }
 
         // The word found was odd, and told of the value as it was taken.
-        ensures out { IsOut result.view.last }
-        ensures length { length_in result.view.last ≡ turn.view.taken }
-        ensures over { over_bit result.view.last ≡ turn.view.over }
+        ensures found { IsOut result.view.last }
+        ensures found_length { length_in result.view.last ≡ turn.view.taken }
+        ensures found_over { over_bit result.view.last ≡ turn.view.over }
     {
         let Turning { mut seat } = turn;
         let word = word_of(&held);
@@ -109,19 +114,22 @@ impl<C: Held> Gate<C> {
     /// The same, of the pass that is alone. It stays so.
     pub fn give_alone(&self, turn: AloneTurning<C>, held: C) -> Alone<C>
         requires gate { IsOf self.now turn }
-        requires value { GoesOn C.Held turn.view.taken turn held }
+        requires length { turn.view.taken ≤ C.length held }
+        requires over { IsTrue turn.view.over → IsTrue (C.over held) }
+        requires origin { C.origin held ≡ self.now.origin }
         ensures gate { IsOf self.now result }
 
         // One step, after which TURN tells of the value. The value moves into the slot.
         ensures step { StepsOnTurn C.Held (λ _. turn_of C.Held held) (MovesIn held) turn result }
         ensures next { IsNext turn Place.Alone result }
-        ensures seen { HasSeen C.Held result held }
+        ensures seen { result.view.seen ≡ C.length held }
         ensures taken { result.view.taken ≡ turn.view.taken }
+        ensures over { result.view.over ≡ C.over held }
 
         // The word found was odd, and told of the value as it was taken.
-        ensures out { IsOut result.view.last }
-        ensures length { length_in result.view.last ≡ turn.view.taken }
-        ensures over { over_bit result.view.last ≡ turn.view.over }
+        ensures found { IsOut result.view.last }
+        ensures found_length { length_in result.view.last ≡ turn.view.taken }
+        ensures found_over { over_bit result.view.last ≡ turn.view.over }
     {
         let AloneTurning { mut seat } = turn;
         let word = word_of(&held);

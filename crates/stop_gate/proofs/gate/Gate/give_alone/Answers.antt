@@ -9,7 +9,6 @@ use Rattle.stop_gate.proofs.gate.Gate.give_alone.Goals as goal
 pub swap-requires : goal.swap-requires
 swap-requires g c =
     let is = c.turn.invariant in
-    let may = c.requires.value in
     let e = c.exchange.ensures.3 in
     let v = ap (λ m. m.0) e in
     let known = v ∙ ap (λ p. p.view) c.turn.view_is in
@@ -18,9 +17,9 @@ swap-requires g c =
       search rules,
       gives_turn g.C.Held _ _ _ _ _ c.args.held (ap (λ u. has_turn u.at) v ∙ ap has_turn is.0) (ap (λ m. m.1) e ∙ ap (λ cs. (0, Some c.args.held) ∷ rest cs) is.1)
           word.home (sym word.length) (sym word.over)
-          (subst (λ u. u.taken ≤ g.C.Held.length c.args.held) (sym known) may.longer)
-          (subst (λ u. IsTrue u.over → IsTrue (g.C.Held.over c.args.held)) (sym known) may.stays_over)
-          (may.origin ∙ sym (ap (λ u. u.origin) known)),
+          (subst (λ u. u.taken ≤ g.C.Held.length c.args.held) (sym known) c.requires.length)
+          (subst (λ u. IsTrue u.over → IsTrue (g.C.Held.over c.args.held)) (sym known) c.requires.over)
+          (c.requires.origin ∙ sym c.requires.gate.1 ∙ sym (ap (λ u. u.origin) known)),
     )
 
 pub returns-clause-step : goal.returns-clause-step
