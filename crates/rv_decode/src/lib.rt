@@ -4,5 +4,7 @@
 mod decoder;
 mod formats;
 mod rows;
+#[cfg(test)]
+mod tests;
 
 pub use decoder::decode;

@@ -3,6 +3,8 @@
 
 mod branches;
 mod results;
+#[cfg(test)]
+mod tests;
 
 pub use branches::{branch_taken, target};
 pub use results::alu;

@@ -6,6 +6,8 @@ mod products;
 mod readings;
 mod shifts;
 mod sums;
+#[cfg(test)]
+mod tests;
 
 pub use divisions::{
     quotient, quotient_32, quotient_unsigned, quotient_unsigned_32, remainder, remainder_32,
