@@ -1,3 +1,4 @@
+//! The rows of each opcode, by the other fields that tell them apart.
 #![tactic(auto, unfolding(crate::specs::Rows::FitsRow, crate::specs::Rows::row_at))]
 
 ghost use Rattle.rv_decode.specs.Rows.{Fields, FitsRow};
@@ -5,7 +6,7 @@ ghost use Rattle.std.specs.Prelude.{◌≡◌, ◌≢◌, ◌⊎◌};
 
 use guest_words::{Format, Op};
 
-/// The row of opcode 67 with this f3.
+/// The row of opcode 67.
 #[inline]
 pub(crate) fn jalr(f3: u32) -> Option<Op>
     ensures { (w : Fields) → FitsRow (record w { opcode = 0x67; f3 = f3 }) Format.Immediate result }
@@ -85,7 +86,8 @@ pub(crate) fn immediate(f3: u32) -> Option<Op>
 #[inline]
 pub(crate) fn shift(f3: u32, f6: u32) -> Option<Op>
     requires { (f3 ≡ 1) ⊎ (f3 ≡ 5) }
-    ensures { (w : Fields) → FitsRow (record w { opcode = 0x13; f3 = f3; f6 = f6 }) Format.Shift result }
+    ensures { (w : Fields)
+        → FitsRow (record w { opcode = 0x13; f3 = f3; f6 = f6 }) Format.Shift result }
 {
     match (f3, f6) {
         (1, 0x00) => Some(Op::Slli),
@@ -99,7 +101,8 @@ pub(crate) fn shift(f3: u32, f6: u32) -> Option<Op>
 #[inline]
 pub(crate) fn word_shift(f3: u32, f7: u32) -> Option<Op>
     requires { f3 ≢ 0 }
-    ensures { (w : Fields) → FitsRow (record w { opcode = 0x1b; f3 = f3; f7 = f7 }) Format.WordShift result }
+    ensures { (w : Fields)
+        → FitsRow (record w { opcode = 0x1b; f3 = f3; f7 = f7 }) Format.WordShift result }
 {
     match (f3, f7) {
         (1, 0x00) => Some(Op::Slliw),
@@ -112,7 +115,8 @@ pub(crate) fn word_shift(f3: u32, f7: u32) -> Option<Op>
 /// The row of opcode 33.
 #[inline]
 pub(crate) fn register(f3: u32, f7: u32) -> Option<Op>
-    ensures { (w : Fields) → FitsRow (record w { opcode = 0x33; f3 = f3; f7 = f7 }) Format.Register result }
+    ensures { (w : Fields)
+        → FitsRow (record w { opcode = 0x33; f3 = f3; f7 = f7 }) Format.Register result }
 {
     match (f3, f7) {
         (0, 0x00) => Some(Op::Add),
@@ -140,7 +144,8 @@ pub(crate) fn register(f3: u32, f7: u32) -> Option<Op>
 /// The row of opcode 3b.
 #[inline]
 pub(crate) fn word_register(f3: u32, f7: u32) -> Option<Op>
-    ensures { (w : Fields) → FitsRow (record w { opcode = 0x3b; f3 = f3; f7 = f7 }) Format.Register result }
+    ensures { (w : Fields)
+        → FitsRow (record w { opcode = 0x3b; f3 = f3; f7 = f7 }) Format.Register result }
 {
     match (f3, f7) {
         (0, 0x00) => Some(Op::Addw),
@@ -183,7 +188,8 @@ pub(crate) fn system(word: u32) -> Option<Op>
 /// The row of opcode 2f on 4 bytes.
 #[inline]
 fn atomic_word(f5: u32, rs2: u32) -> Option<Op>
-    ensures { (w : Fields) → FitsRow (record w { opcode = 0x2f; f3 = 2; f5 = f5; rs2 = rs2 }) Format.Register result }
+    ensures { (w : Fields)
+        → FitsRow (record w { opcode = 0x2f; f3 = 2; f5 = f5; rs2 = rs2 }) Format.Register result }
 {
     match (f5, rs2) {
         (0x02, 0) => Some(Op::LrW),
@@ -204,7 +210,8 @@ fn atomic_word(f5: u32, rs2: u32) -> Option<Op>
 /// The row of opcode 2f on 8 bytes.
 #[inline]
 fn atomic_double(f5: u32, rs2: u32) -> Option<Op>
-    ensures { (w : Fields) → FitsRow (record w { opcode = 0x2f; f3 = 3; f5 = f5; rs2 = rs2 }) Format.Register result }
+    ensures { (w : Fields)
+        → FitsRow (record w { opcode = 0x2f; f3 = 3; f5 = f5; rs2 = rs2 }) Format.Register result }
 {
     match (f5, rs2) {
         (0x02, 0) => Some(Op::LrD),
@@ -225,7 +232,8 @@ fn atomic_double(f5: u32, rs2: u32) -> Option<Op>
 /// The row of opcode 2f.
 #[inline]
 pub(crate) fn atomic(f3: u32, f5: u32, rs2: u32) -> Option<Op>
-    ensures { (w : Fields) → FitsRow (record w { opcode = 0x2f; f3 = f3; f5 = f5; rs2 = rs2 }) Format.Register result }
+    ensures { (w : Fields)
+        → FitsRow (record w { opcode = 0x2f; f3 = f3; f5 = f5; rs2 = rs2 }) Format.Register result }
 {
     match f3 {
         2 => atomic_word(f5, rs2),
