@@ -1,0 +1,5 @@
+// Each object in memory with a failing call in the middle, each adapter over real files, and the
+// devices over them.
+mod adapters;
+mod devices;
+mod in_memory;
