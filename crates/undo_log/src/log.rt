@@ -19,7 +19,10 @@ impl Model for Log {
 
     ghost Value = { Noted };
 
-    ghost view = { λ l. record { notes = l.notes.items; spare = vec_capacity l.notes - vec_len l.notes } };
+    ghost view = { λ l. record {
+      notes = l.notes.items;
+      spare = vec_capacity l.notes - vec_len l.notes;
+    } };
 }
 
 impl Log {
@@ -35,7 +38,8 @@ impl Log {
     /// Notes the `width` low bytes of `old`, which stand at `address`. With room it isn't refused,
     /// and uses one place.
     pub fn note_bytes(&mut self, address: u64, width: u8, old: u64) -> Result<(), MemoryWant>
-        ensures ok { OnOk result (self.new.notes ≡ self.old.notes ++ note_of address width old ∷ []) }
+        ensures ok { OnOk result
+            (self.new.notes ≡ self.old.notes ++ note_of address width old ∷ []) }
         ensures err { OnErr result (self.new.notes ≡ self.old.notes) }
         ensures sure { 0 < self.old.spare → IsOk result }
         ensures room { 0 < self.old.spare → self.new.spare + 1 ≡ self.old.spare }
