@@ -12,6 +12,8 @@ pub mod rules;
 mod segment;
 mod segment_list;
 mod table;
+#[cfg(test)]
+mod tests;
 
 pub use load_fault::LoadFault;
 pub use loader::load;

@@ -1,4 +1,4 @@
-ghost use Rattle.std.specs.Prelude.{◌≡◌, ◌↔◌, ◌≤◌, ℕ, None, Some, length, map, IfOk, IsErrOf};
+ghost use Rattle.std.specs.Prelude.{◌≡◌, ◌↔◌, ◌≤◌, ℕ, None, Some, length, map, IfOk, OnOk, IsErrOf};
 ghost use Rattle.guest_words.specs.Image.{IsImage, first_fault};
 ghost use Rattle.guest_words.specs.declared.elf_fault.ElfFault.{ElfFault};
 ghost use Rattle.elf_loader.specs.Segment.{load_of};
@@ -39,6 +39,7 @@ fn loads_of(alloc: Global, segments: &[Segment]) -> Result<Loads, AllocError>
 /// memory.
 pub fn load(alloc: Global, bytes: &[u8]) -> Result<Image, LoadFault>
     ensures ok { IfOk result (IsImage bytes.now) }
+    ensures kept { OnOk result (first_fault bytes.now ≡ None) }
 
     // A rule is named exactly where it is the first one that is broken.
     ensures cause { (fault : ElfFault) (offset : ℕ)

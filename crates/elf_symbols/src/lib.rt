@@ -13,6 +13,8 @@ mod symbol;
 mod symbol_table;
 mod symbols;
 mod symbols_fault;
+#[cfg(test)]
+mod tests;
 
 pub use found::Found;
 pub use reader::functions;

@@ -1,0 +1,159 @@
+use crate::{Found, SymFault, Symbol, Symbols, SymbolsFault, functions};
+use elf_loader::load;
+use guest_words::Name;
+use std::alloc::{AllocError, Global};
+use std::test::Fail;
+
+/// A number written over the file, from a place on, in so many bytes.
+type Change = (usize, usize, u64);
+
+/// A program with one load and, from 132 on, two functions with their names and three section
+/// headers: an empty one, the symbol table's at 288 and the string table's at 352.
+const PARTS: [Change; 32] = [
+    (0, 8, 0x0001_0102_464c_457f),
+    (16, 2, 2),
+    (18, 2, 243),
+    (20, 4, 1),
+    (24, 8, 0x10000),
+    (32, 8, 64),
+    (40, 8, 224),
+    (54, 2, 56),
+    (56, 2, 1),
+    (58, 2, 64),
+    (60, 2, 3),
+    (64, 4, 1),
+    (68, 4, 5),
+    (80, 8, 0x10000),
+    (96, 8, 132),
+    (104, 8, 256),
+    (156, 4, 1),
+    (160, 1, 0x12),
+    (162, 2, 1),
+    (164, 8, 0x10000),
+    (180, 4, 8),
+    (184, 1, 0x12),
+    (186, 2, 1),
+    (188, 8, 0x100b0),
+    (196, 8, 36),
+    (292, 4, 2),
+    (312, 8, 132),
+    (320, 8, 72),
+    (328, 4, 2),
+    (344, 8, 24),
+    (356, 4, 3),
+    (376, 8, 204),
+];
+
+fn write(file: &mut Vec<u8>, change: Change) {
+    let (place, width, value) = change;
+    for (k, byte) in value.to_le_bytes().iter().take(width).enumerate() {
+        if let Some(old) = file.get_mut(place.wrapping_add(k)) {
+            *old = *byte;
+        }
+    }
+}
+
+/// The program with a change.
+fn changed(alloc: Global, change: Change) -> Result<Vec<u8>, AllocError> {
+    let mut file = vec![in alloc; 0; 204]?;
+    file.extend_from_slice(b"\0_start\0handle\0")?;
+    file.resize(416, 0)?;
+    for part in PARTS {
+        write(&mut file, part);
+    }
+    write(&mut file, (384, 8, 15));
+    write(&mut file, change);
+    Ok(file)
+}
+
+const NO_CHANGE: Change = (0, 0, 0);
+
+/// What the symbols of the program with a change are; it stays one that the loader accepts.
+fn read(alloc: Global, change: Change) -> Result<Result<Symbols, SymbolsFault>, Fail> {
+    let file = changed(alloc, change)?;
+    load(alloc, file.as_slice())?;
+    Ok(functions(alloc, file.as_slice()))
+}
+
+#[test]
+fn symbols_of_a_program(rt: HostRuntime) -> Result<(), Fail> {
+    let symbols = read(rt.alloc(), NO_CHANGE)??;
+    let wanted = [(0x10000, 0, "_start"), (0x100b0, 36, "handle")];
+    assert_eq!(rt; symbols.items().len(), 2);
+    for (symbol, (value, size, name)) in symbols.items().iter().zip(wanted) {
+        assert_eq!(rt; (symbol.value, symbol.size), (value, size));
+        assert!(rt; symbol.name.items() == name);
+    }
+    Ok(())
+}
+
+#[test]
+fn symbols_by_name(rt: HostRuntime) -> Result<(), Fail> {
+    let symbols = read(rt.alloc(), NO_CHANGE)??;
+    assert_eq!(rt; symbols.find("handle"), Found::One(0x100b0));
+    assert_eq!(rt; symbols.find("main"), Found::Absent);
+    let twice = read(rt.alloc(), (180, 4, 1))??;
+    assert_eq!(rt; twice.find("_start"), Found::Several(2));
+    Ok(())
+}
+
+#[test]
+fn symbols_are_a_list(rt: HostRuntime) -> Result<(), Fail> {
+    let mut items = Vec::new(rt.alloc());
+    items.push(Symbol {
+        value: 7,
+        size: 0,
+        name: Name::of(String::from_str(rt.alloc(), "a")?),
+    })?;
+    assert_eq!(rt; Symbols::of(items).find("a"), Found::One(7));
+    Ok(())
+}
+
+#[test]
+fn symbols_left_out(rt: HostRuntime) -> Result<(), Fail> {
+    for (change, count) in [
+        ((40, 8, 0), 0),
+        ((60, 2, 0), 0),
+        ((292, 4, 1), 0),
+        ((184, 1, 0x11), 1),
+        ((186, 2, 0), 1),
+        ((212, 1, 0xff), 1),
+    ] {
+        let symbols = read(rt.alloc(), change)??;
+        assert_eq!(rt; symbols.items().len(), count, "{change:?}");
+    }
+    Ok(())
+}
+
+/// Each rule that one change of the program breaks.
+const FAULTS: [(Change, SymFault, u64); 11] = [
+    ((58, 2, 32), SymFault::SectionSize, 58),
+    ((60, 2, 4), SymFault::SectionsOutside, 40),
+    ((40, 8, u64::MAX), SymFault::SectionsOutside, 40),
+    ((344, 8, 23), SymFault::EntrySize, 344),
+    ((320, 8, 25), SymFault::EntrySize, 320),
+    ((320, 8, 0xffff_ffff_ffff_fff0), SymFault::TableOutside, 312),
+    ((328, 4, 3), SymFault::StringSection, 328),
+    ((356, 4, 2), SymFault::StringSection, 328),
+    ((384, 8, u64::MAX), SymFault::StringsOutside, 376),
+    ((180, 4, 15), SymFault::NameOutside, 180),
+    ((384, 8, 14), SymFault::NameOutside, 180),
+];
+
+#[test]
+fn refused_symbols(rt: HostRuntime) -> Result<(), Fail> {
+    for (change, fault, offset) in FAULTS {
+        let answer = read(rt.alloc(), change)?.err();
+        let want = Some(SymbolsFault::Symbols { fault, offset });
+        assert_eq!(rt; answer, want, "{change:?}");
+    }
+    Ok(())
+}
+
+#[test]
+fn printed_refusal(rt: HostRuntime) -> Result<(), Fail> {
+    let text = read(rt.alloc(), (58, 2, 32))?.err().ok_or("refused")?;
+    let text = format!(in rt.alloc(); "{text}")?;
+    assert!(rt; text.as_str() == "symbols section-size at 58");
+    Ok(())
+}
