@@ -116,7 +116,7 @@ built-of_word : (hart : Hart) (word steps : ℕ) → hart.arrived ≡ false → 
     → is_built (state_with hart steps) 0 ≡ is_built_inst (instruction_of word) hart 0
 unfolding is_built
 built-of_word hart word steps still even may is =
-    ap (λ b. is_built_at (if b && nat_lt 0 16 then active_at [] hart.pc else None) (state_with hart steps) hart 0) still
+    ap (λ b. is_built_at (if b && nat_lt 0 16 then active_at [] hart.pc else None) (state_with hart steps).memory hart 0) still
     ∙ ap (λ i. is_built_inst i hart 0) (inst_at-word memory hart.pc word even may is)
 
 built0 : (steps : ℕ) → is_built (state_with h0 steps) 0 ≡ true

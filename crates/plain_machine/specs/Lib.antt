@@ -1,3 +1,4 @@
+pub mod Acts
 pub mod After
 pub mod Built
 pub mod Counts

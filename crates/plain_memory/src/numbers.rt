@@ -1,4 +1,4 @@
-ghost use Rattle.std.specs.Prelude.{◌≡◌, ◌+◌, ◌≤◌, ◌^◌, ◌⊎◌, IfOk, length};
+ghost use Rattle.std.specs.Prelude.{◌≡◌, ◌+◌, ◌*◌, ◌<◌, ◌≤◌, ◌^◌, ◌⊎◌, IfOk, length};
 ghost use Rattle.guest_words.specs.Space.{bytes_at, low_bytes, number_at, with_bytes};
 
 use crate::memory::Memory;
@@ -12,6 +12,7 @@ impl Memory {
         requires fits { place + width ≤ 2 ^ 64 }
         requires width { (width ≡ 1) ⊎ (width ≡ 2) ⊎ (width ≡ 4) ⊎ (width ≡ 8) }
         ensures value { result ≡ number_at self.now place width }
+        ensures within { result < 2 ^ (8 * width) }
     {
         match width {
             1 => u64::from(self.u8_at(place)),
