@@ -4,4 +4,5 @@ pub mod Insides
 pub mod RefusedRescues
 mod RescueShown
 pub mod RunSteps
+pub mod SlotLaws
 mod RunsShown

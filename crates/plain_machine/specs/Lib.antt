@@ -5,3 +5,5 @@ pub mod Counts
 pub mod Ends
 pub mod Legal
 pub mod Past
+pub mod Seen
+pub mod StartSlots

@@ -2,11 +2,21 @@
 #![tactic(auto)]
 
 mod acts;
+mod advance;
+mod calls;
+mod changes;
 mod decide;
 mod entry;
 mod history;
+mod plain;
+mod records;
+mod see;
+mod slots;
+mod tests_of_slots;
 #[cfg(test)]
 mod tests;
 
 pub use entry::Entry;
 pub use history::History;
+pub use plain::Plain;
+pub use see::Seen;

@@ -1,0 +1,14 @@
+use Rattle.std.proofs.Common.{rules, ◌≡◌, sym, ap, ◌∙◌, ◌<◌, ◌≤◌, length, refl}
+use Rattle.guest_words.specs.State.{on_hart}
+use Rattle.plain_machine.proofs.SlotLaws.{changed-at, changed-past}
+use Rattle.plain_machine.proofs.changes.put_at.Goals as goal
+
+pub returns-then-h-len : goal.returns-then-h-len
+returns-then-h-len c =
+    let inside : c.args.h < length c.args.slots.now.items = search rules in
+    record { value = changed-at (on_hart (λ before. c.args.hart)) c.args.h c.args.slots.now.items c.index_mut.result.now _ inside c.index_mut.ensures.value (refl) }
+
+pub returns-else-h-len : goal.returns-else-h-len
+returns-else-h-len c =
+    let past : length c.args.slots.now.items ≤ c.args.h = search rules in
+    record { value = sym (changed-past (on_hart (λ before. c.args.hart)) c.args.h c.args.slots.now.items past) }

@@ -1,0 +1,8 @@
+use Rattle.std.proofs.Common.{◌≡◌, ◌≤◌, ap, sym, ◌∙◌, subst, length}
+use Rattle.guest_words.specs.CallChanges.{left}
+use Rattle.plain_machine.proofs.SlotLaws.{length-changed}
+use Rattle.plain_machine.proofs.slots.Slots.leave.Goals as goal
+
+pub invariant_of-self : goal.invariant_of-self
+invariant_of-self c =
+    subst (λ n. n ≤ 64) (sym (ap length c.leave_at.ensures.value ∙ length-changed (left c.args.code) c.args.h c.self.inside.items.items)) c.self.invariant
