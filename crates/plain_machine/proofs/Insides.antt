@@ -12,8 +12,8 @@ use Rattle.plain_machine.specs.declared.entry.Entry.TheViews as v
 use Rattle.plain_machine.specs.declared.entry.Entry.TheVariants.{outs-Ran, outs-Entered, outs-Called, outs-Rescued', outs-Ended, rolls-Rescued}
 use Rattle.plain_machine.specs.Counts.{size_of, size_of_row, size_of_all, steps_of, steps_of_row, steps_of_all, records_of, records_of_row, records_of_all}
 use Rattle.plain_machine.specs.Built.{seen}
-use Rattle.plain_machine.specs.After.{after, after_row, state_after, ran, called, taken_back}
-use Rattle.plain_machine.specs.Legal.{legal, legal_row, legal_inside, is_licensed, ends_in, may_act, is_arrival, is_of}
+use Rattle.plain_machine.specs.After.{after, after_row, state_after, rescued, ran, called, taken_back}
+use Rattle.plain_machine.specs.Legal.{legal, legal_row, legal_inside, legal_rescue, is_licensed, ends_in, may_act, is_arrival, is_of}
 
 pub out-Rescued : (h : ℕ) (p : PointRef) (f : Fault) (xs : List Entry) → out-Entry (v.Rescued h p f xs) ≡ Entry-F.Rescued h p f xs
 out-Rescued h p f xs = ap out-Entry (sym (rolls-Rescued h p f xs)) ∙ out-roll-Entry (Entry-F.Rescued h p f xs)
@@ -95,14 +95,14 @@ after_row-is n end_of-Entry s = refl
 after_row-is n (more_of-Entry e rest) s = after_row-is _ rest (after e s)
 
 -- the state after a rescued call, by the state at its fault
-abbrev rescued : ℕ → PointRef → Fault → State → State → State
-rescued h p f s t = taken_back h (code_of p f.name) t.records t.steps s
+abbrev rescued_from : ℕ → PointRef → Fault → State → State → State
+rescued_from h p f s t = taken_back h (code_of p f.name) t.records t.steps s
 
 abbrev after_at : Entry-F Entry → State → State
 after_at (Entry-F.Ran h n) s = ran n h s
 after_at (Entry-F.Entered h p) s = enter h p s
 after_at (Entry-F.Called h r) s = called h r s
-after_at (Entry-F.Rescued h p f inside) s = rescued h p f s (state_after inside (enter h p s))
+after_at (Entry-F.Rescued h p f inside) s = rescued_from h p f s (state_after inside (enter h p s))
 after_at (Entry-F.Ended x) s = after (Ended x) s
 
 after-at : (e : Entry) (s : State) → after e s ≡ after_at (out-Entry e) s
@@ -111,12 +111,12 @@ after-at (Ran h n) s = sym (ap (λ l. after_at l s) (outs-Ran h n))
 after-at (Entered h p) s = sym (ap (λ l. after_at l s) (outs-Entered h p))
 after-at (Called h r) s = sym (ap (λ l. after_at l s) (outs-Called h r))
 after-at (Rescued' h p f shape row) s =
-    ap (rescued h p f s) (after_row-is _ row (enter h p s) ∙ sym (ap (λ xs. state_after xs (enter h p s)) (items_shown-the_row-Entry-0 shape row)))
+    ap (rescued_from h p f s) (after_row-is _ row (enter h p s) ∙ sym (ap (λ xs. state_after xs (enter h p s)) (items_shown-the_row-Entry-0 shape row)))
     ∙ sym (ap (λ l. after_at l s) (outs-Rescued' h p f shape row))
 after-at (Ended x) s = sym (ap (λ l. after_at l s) (outs-Ended x))
 
 pub after-Rescued : (h : ℕ) (p : PointRef) (f : Fault) (xs : List Entry) (s : State)
-    → after (v.Rescued h p f xs) s ≡ rescued h p f s (state_after xs (enter h p s))
+    → after (v.Rescued h p f xs) s ≡ rescued h p f xs s
 after-Rescued h p f xs s = after-at _ s ∙ ap (λ l. after_at l s) (out-Rescued h p f xs)
 
 -- legal entries
@@ -125,10 +125,6 @@ legal_row-is : (n : _) (row : Row_of-Entry n) (h d : ℕ) (s : State) → legal_
 unfolding legal
 legal_row-is n end_of-Entry h d s = refl
 legal_row-is n (more_of-Entry e rest) h d s = ap (λ b. is_of h e && legal e s && nat_lt d (frames_at (after e s) h) && b) (legal_row-is _ rest h d (after e s))
-
--- the condition of a rescued call
-abbrev pub legal_rescue : ℕ → PointRef → Fault → List Entry → State → Bool
-legal_rescue h p f inside s = may_act s h && is_arrival p (seen s h) && is_licensed s h p f inside
 
 abbrev legal_at : Entry-F Entry → State → Bool
 legal_at (Entry-F.Ran h n) s = legal (Ran h n) s

@@ -12,7 +12,7 @@ use Rattle.plain_machine.specs.declared.entry.Entry.TheViews as v
 use Rattle.plain_machine.specs.Built.{seen}
 use Rattle.plain_machine.specs.After.{after, state_after}
 use Rattle.plain_machine.specs.Legal.{legal, legal_inside, is_licensed, ends_in, may_act, is_arrival, is_of}
-use Rattle.plain_machine.proofs.Insides.{legal_rescue, legal-Rescued}
+use Rattle.plain_machine.proofs.Insides.{legal-Rescued}
 
 and-right_false : (a b : Bool) → b ≡ false → (a && b) ≡ false
 and-right_false true b absent = absent

@@ -30,7 +30,8 @@ use Rattle.plain_machine.specs.After.{after, ran, taken_back}
 use Rattle.plain_machine.specs.Legal.{legal, can_run, is_run, IsRun, ends_in, is_arrival, may_act, is_licensed}
 use Rattle.plain_machine.proofs.Insides.{legal-Rescued, after-Rescued}
 use Rattle.plain_machine.proofs.Fetches.{HasCells, each_has-cells, bytes_at-cells, fetched_act-word, inst_at-word}
-use Rattle.plain_machine.proofs.RunSteps.{counted, can_run-ordinary, ran-ordinary}
+use Rattle.plain_machine.specs.Steps.{counted}
+use Rattle.plain_machine.proofs.RunSteps.{can_run-ordinary, ran-ordinary}
 
 -- `jal x1, 0x10008` at 0x10000, and `ld x7, 0(x0)` at 0x10008
 abbrev program : List ℕ

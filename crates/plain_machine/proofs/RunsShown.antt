@@ -22,7 +22,8 @@ use Rattle.plain_machine.specs.Built.{seen, is_built, is_built_inst, is_built_at
 use Rattle.plain_machine.specs.After.{after, ran}
 use Rattle.plain_machine.specs.Legal.{legal, can_run, is_run, IsRun}
 use Rattle.plain_machine.proofs.Fetches.{HasCells, each_has-cells, bytes_at-cells, fetched_act-word, inst_at-word}
-use Rattle.plain_machine.proofs.RunSteps.{counted, can_run-ordinary, ran-ordinary}
+use Rattle.plain_machine.specs.Steps.{counted}
+use Rattle.plain_machine.proofs.RunSteps.{can_run-ordinary, ran-ordinary}
 
 -- the program's bytes, from 0x10000 on
 abbrev program : List ℕ

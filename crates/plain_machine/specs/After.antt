@@ -10,6 +10,7 @@ use Rattle.guest_words.specs.Points.{code_of}
 use Rattle.guest_words.specs.Harts.{reg, returned, unreserved}
 use Rattle.guest_words.specs.State.{State, changed, on_hart, on_each, with_hart, with_closed, stored, enter}
 use Rattle.guest_words.specs.CallChanges.{answered}
+use Rattle.guest_words.specs.declared.fault.Fault.{Fault as FaultAt}
 use Rattle.guest_words.specs.Act.{StateAct, Ordinary, Fault, Request, Arrival, End, Absent}
 use Rattle.plain_machine.specs.declared.entry.Entry.{Entry, Ran, Entered, Called, Rescued', Ended, Row_of-Entry, end_of-Entry, more_of-Entry}
 use Rattle.plain_machine.specs.Built.{seen}
@@ -77,3 +78,9 @@ unfoldable mutual
 abbrev pub state_after : List Entry → State → State
 state_after [] s = s
 state_after (e ∷ es) s = state_after es (after e s)
+
+-- the state that a rescued call gives, by the list of its inside
+abbrev pub rescued : ℕ → PointRef → FaultAt → List Entry → State → State
+rescued h point fault inside s =
+    let t = state_after inside (enter h point s)
+    in taken_back h (code_of point fault.name) t.records t.steps s

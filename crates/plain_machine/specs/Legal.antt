@@ -107,6 +107,11 @@ is_licensed s h point fault inside =
     legal_inside inside h (frames_at s h) (enter h point s)
     && ends_in (state_after inside (enter h point s)) h fault (frames_at s h)
 
+-- the condition of a rescued call, by the list of its inside
+abbrev pub legal_rescue : ℕ → PointRef → FaultAt → List Entry → State → Bool
+legal_rescue h point fault inside s =
+    may_act s h && is_arrival point (seen s h) && is_licensed s h point fault inside
+
 -- an entry may stand in a state
 abbrev pub IsLegal : State → Entry → Type 0
 IsLegal s e = IsTrue (legal e s)

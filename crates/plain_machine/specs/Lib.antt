@@ -7,3 +7,4 @@ pub mod Legal
 pub mod Past
 pub mod Seen
 pub mod StartSlots
+pub mod Steps

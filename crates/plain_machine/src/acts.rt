@@ -10,6 +10,14 @@ use plain_memory::Memory;
 use rv_exec::{alu, branch_taken, target};
 use rv_word::{sum, sx32, word_of};
 
+/// The value of a register; x0 reads as 0.
+fn reg(hart: &Hart, r: u8) -> u64
+    requires register { r < 32 }
+    ensures value { result ≡ Harts.reg hart.now r }
+{
+    if r == 0 { 0 } else { hart.regs[r as usize] }
+}
+
 /// A register gets a value; a write to x0 is lost.
 pub fn with_reg(hart: &Hart, r: u8, value: u64) -> Hart
     requires register { r < 32 }
@@ -45,8 +53,8 @@ pub fn register(hart: &Hart, inst: &Inst) -> Act
     requires registers { NamesRegisters inst.now }
     ensures value { result ≡ register_act hart.now inst.now }
 {
-    let first = hart.regs[inst.rs1 as usize];
-    let second = hart.regs[inst.rs2 as usize];
+    let first = reg(hart, inst.rs1);
+    let second = reg(hart, inst.rs2);
     Act::Next {
         hart: with_result(hart, inst, alu(inst, hart.pc, first, second)),
         write: None,
@@ -59,8 +67,8 @@ pub fn branch(hart: &Hart, inst: &Inst) -> Act
     requires registers { NamesRegisters inst.now }
     ensures value { result ≡ branch_act hart.now inst.now }
 {
-    let first = hart.regs[inst.rs1 as usize];
-    let second = hart.regs[inst.rs2 as usize];
+    let first = reg(hart, inst.rs1);
+    let second = reg(hart, inst.rs2);
     let next = past(hart);
     if branch_taken(inst.op, first, second) {
         jump_to(next, target(inst, hart.pc, first))
@@ -78,7 +86,7 @@ pub fn jump(hart: &Hart, inst: &Inst) -> Act
     requires registers { NamesRegisters inst.now }
     ensures value { result ≡ jump_act hart.now inst.now }
 {
-    let first = hart.regs[inst.rs1 as usize];
+    let first = reg(hart, inst.rs1);
     let mut next = with_result(hart, inst, hart.pc.wrapping_add(4));
     next.arrived = true;
     jump_to(next, target(inst, hart.pc, first))
@@ -102,14 +110,16 @@ fn place_of(hart: &Hart, inst: &Inst) -> u64
     requires registers { NamesRegisters inst.now }
     ensures value { result ≡ place_of hart.now inst.now }
 {
-    sum(hart.regs[inst.rs1 as usize], word_of(inst.imm))
+    sum(reg(hart, inst.rs1), word_of(inst.imm))
 }
 
 /// Reads memory into rd.
 pub fn load(memory: &Memory, hart: &Hart, inst: &Inst, width: u8) -> Act
     requires class { class_of inst.now.op ≡ Class.Load width }
     requires registers { NamesRegisters inst.now }
-    ensures value { result ≡ load_act memory.now hart.now inst.now (place_of hart.now inst.now) width }
+    ensures value {
+        result ≡ load_act memory.now hart.now inst.now (place_of hart.now inst.now) width
+    }
 {
     let place = place_of(hart, inst);
     if !memory.can_read(place, u64::from(width)) {
@@ -154,7 +164,9 @@ fn sign_extended_16(n: u16) -> u64
 /// Writes a register to memory.
 pub fn store(memory: &Memory, hart: &Hart, inst: &Inst, width: u8) -> Act
     requires registers { NamesRegisters inst.now }
-    ensures value { result ≡ store_act memory.now hart.now inst.now (place_of hart.now inst.now) width }
+    ensures value {
+        result ≡ store_act memory.now hart.now inst.now (place_of hart.now inst.now) width
+    }
 {
     let place = place_of(hart, inst);
     if !memory.can_write(place, u64::from(width)) {
@@ -165,7 +177,7 @@ pub fn store(memory: &Memory, hart: &Hart, inst: &Inst, width: u8) -> Act
         write: Some(Write {
             address: place,
             width,
-            value: hart.regs[inst.rs2 as usize],
+            value: reg(hart, inst.rs2),
         }),
     }
 }

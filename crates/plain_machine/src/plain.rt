@@ -41,7 +41,20 @@ impl Model for Plain {
     ghost coded = { Prim.hlevel (codes, map.code {R = nat_cmp} coded_ℕ cell.the_row.coded) };
 
     // No act that is built makes a hart wait.
-    ghost view = { λ p. record { memory = p.memory; slots = p.slots; waiting = []; next_tid = p.next_tid; records = p.records; steps = p.steps; ending = p.ending; points = p.points; ports = p.ports; budget = p.budget } };
+    ghost view = {
+        λ p. record {
+            memory = p.memory;
+            slots = p.slots;
+            waiting = [];
+            next_tid = p.next_tid;
+            records = p.records;
+            steps = p.steps;
+            ending = p.ending;
+            points = p.points;
+            ports = p.ports;
+            budget = p.budget;
+        }
+    };
 
     ghost invariant = { λ p. p.steps ≤ p.budget };
 }
@@ -60,7 +73,9 @@ impl Plain {
         requires image { IsLoadList image.now.loads }
         requires some { 1 ≤ harts }
         requires most { harts ≤ 64 }
-        ensures ok { IfOk result (λ plain. plain ≡ start_of image.now points.now harts ports budget) }
+        ensures ok {
+            IfOk result (λ plain. plain ≡ start_of image.now points.now harts ports budget)
+        }
     {
         Ok(Plain {
             memory: Memory::of(alloc, &image.loads)?,
@@ -147,8 +162,8 @@ impl Plain {
         }
     }
 
-    /// Whether the hart in a slot may act: the run goes on, the hart is ready, and no other hart has
-    /// a frame open.
+    /// Whether the hart in a slot may act: the run goes on, the hart is ready, and no other hart
+    /// has a frame open.
     pub fn may_act(&self, hart: u8) -> bool
         ensures value { result ≡ may_act self.now hart }
     {

@@ -1,5 +1,5 @@
 ghost use Rattle.std.specs.Prelude.{◌≡◌, IfOk, IsTrue, if◌then◌else◌};
-ghost use Rattle.guest_words.specs.Act.{asks, replied};
+ghost use Rattle.guest_words.specs.Act.{asks, in_state, replied};
 ghost use Rattle.guest_words.specs.Space.{bytes_at, can_read};
 ghost use Rattle.plain_machine.specs.Acts.{built_in};
 ghost use Rattle.plain_machine.specs.Built.{seen};
@@ -39,13 +39,7 @@ impl Plain {
     {
         match self.act(hart) {
             None => Seen::Unbuilt,
-            Some(Act::Next { .. }) => Seen::Ordinary,
-            Some(Act::Fault(name)) => Seen::Fault(name),
-            Some(Act::Call(request)) => {
-                let reply = self.reply(hart, &request);
-                self.see_reply(hart, &request, reply)
-            }
-            Some(Act::Arrived(point)) => Seen::Arrival(point),
+            Some(act) => self.see_act(hart, &act),
         }
     }
 
@@ -67,6 +61,18 @@ impl Plain {
                 let frames = slot.frames.items().len();
                 decide(&self.memory, &self.points, frames, &slot.hart)
             }
+        }
+    }
+
+    #[tactic(auto, unfolding(guest_words::specs::Act::act_of_call))]
+    fn see_act(&self, hart: u8, act: &Act) -> Seen
+        ensures value { result ≡ named (in_state act.now hart self.now) }
+    {
+        match act {
+            Act::Next { .. } => Seen::Ordinary,
+            Act::Fault(name) => Seen::Fault(*name),
+            Act::Call(request) => self.see_reply(hart, request, self.reply(hart, request)),
+            Act::Arrived(point) => Seen::Arrival(*point),
         }
     }
 

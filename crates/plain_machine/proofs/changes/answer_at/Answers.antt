@@ -1,4 +1,6 @@
 use Rattle.std.proofs.Common.{rules, ◌≡◌, sym, ap, ◌∙◌, ◌<◌, ◌≤◌, length, refl}
+use Rattle.std.proofs.lemmas.Int.{to_z-of_z}
+use mir.Syntax.{w64}
 use Rattle.guest_words.specs.State.{on_hart}
 use Rattle.guest_words.specs.CallChanges.{answered}
 use Rattle.plain_machine.proofs.SlotLaws.{changed-at, changed-past}
@@ -7,7 +9,8 @@ use Rattle.plain_machine.proofs.changes.answer_at.Goals as goal
 pub returns-then-h-len : goal.returns-then-h-len
 returns-then-h-len c =
     let inside : c.args.h < length c.args.slots.now.items = search rules in
-    record { value = ? }
+    let slot = c.index_mut-slot.result.now in
+    record { value = changed-at (on_hart (answered c.args.value)) c.args.h c.args.slots.now.items slot _ inside c.index_mut-slot.ensures.value (ap (λ hart. record slot { hart = hart }) (sym (c.answered-slot.ensures.value ∙ ap (λ v. answered v slot.hart) (to_z-of_z w64 c.args.value c.ranges.value)))) }
 
 pub returns-else-h-len : goal.returns-else-h-len
 returns-else-h-len c =

@@ -7,7 +7,8 @@ use Rattle.plain_machine.proofs.changes.give_back_at.Goals as goal
 pub returns-then-h-len : goal.returns-then-h-len
 returns-then-h-len c =
     let inside : c.args.h < length c.args.slots.now.items = search rules in
-    record { value = ? }
+    let slot = c.index_mut-slot.result.now in
+    record { value = changed-at (on_hart (given_back c.args.ret)) c.args.h c.args.slots.now.items slot _ inside c.index_mut-slot.ensures.value (ap (λ hart. record slot { hart = hart }) (sym c.given_back-slot.ensures.value)) }
 
 pub returns-else-h-len : goal.returns-else-h-len
 returns-else-h-len c =

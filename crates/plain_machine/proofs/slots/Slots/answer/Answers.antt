@@ -1,9 +1,7 @@
 use Rattle.std.proofs.Common.{◌≡◌, ◌≤◌, ap, sym, ◌∙◌, subst, length}
-use Rattle.guest_words.specs.State.{on_hart}
-use Rattle.guest_words.specs.CallChanges.{answered}
 use Rattle.plain_machine.proofs.SlotLaws.{length-changed}
 use Rattle.plain_machine.proofs.slots.Slots.answer.Goals as goal
 
 pub invariant_of-self : goal.invariant_of-self
 invariant_of-self c =
-    subst (λ n. n ≤ 64) (sym (ap length c.answer_at.ensures.value ∙ length-changed (on_hart (answered c.args.value)) c.args.h c.self.inside.items.items)) c.self.invariant
+    subst (λ n. n ≤ 64) (sym (ap length c.answer_at.ensures.value ∙ length-changed _ c.args.h c.self.inside.items.items)) c.self.invariant
