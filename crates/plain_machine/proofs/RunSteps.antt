@@ -1,5 +1,6 @@
 -- One act more of a run, by what the hart is seen to do.
-use Rattle.std.proofs.Common.{◌≡◌, ℕ, zero, suc, ◌+◌, ◌<◌, Bool, true, false, not, ◌&&◌, refl, ap, sym, ◌∙◌, arith}
+use Rattle.std.proofs.Common.{◌≡◌, ℕ, zero, suc, ◌+◌, ◌<◌, Bool, true, false, not, ◌&&◌, refl, ap, sym, ◌∙◌, arith, nat_eq, inl, inr, ◌≤◌}
+use Rattle.std.proofs.lemmas.Bool.Decides.{eqb_tells}
 use Rattle.guest_words.specs.State.{State}
 use Rattle.guest_words.specs.Act.{StateAct, Ordinary}
 use Rattle.guest_words.specs.Endings.{is_budget_spent}
@@ -76,3 +77,11 @@ can_run-stops (suc n) (suc m) h s below stuck =
     none : (b : Bool) → (b && false) ≡ false
     none true = refl
     none false = refl
+
+-- a run of so many acts is one exactly where just so many can be made
+pub can_run-is : (made count h : ℕ) (s : State) → made ≤ count → can_run made h s ≡ true → (made < count → can_go h (ran made h s) ≡ false) → nat_eq made count ≡ can_run count h s
+can_run-is made count h s within so_far stops =
+    elim (eqb_tells made count) [
+      | inl same ↦ same.0 ∙ sym (ap (λ k. can_run k h s) (sym same.1) ∙ so_far)
+      | inr other ↦ let apart = other.1 in let below : made < count = omega (arith, within, apart) in other.0 ∙ sym (can_run-stops made count h s below (stops below))
+    ]

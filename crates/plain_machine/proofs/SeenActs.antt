@@ -1,5 +1,5 @@
 -- The act that is seen, by the act of the hart alone.
-use Rattle.std.proofs.Common.{◌≡◌, ℕ, zero, suc, ◌+◌, ◌<◌, ◌≤◌, ◌%◌, ◌^◌, Bool, true, false, not, ◌&&◌, ◌||◌, ◌==◌, nat_le, if◌then◌else◌, List, length, Option, Some, None, refl, ap, sym, ◌∙◌, slice_get, subst, arith, lit≤, ℤ, nat_lt, nat_eq}
+use Rattle.std.proofs.Common.{◌≡◌, ℕ, zero, suc, ◌+◌, ◌<◌, ◌≤◌, ◌%◌, ◌^◌, Bool, true, false, not, ◌&&◌, ◌||◌, ◌==◌, nat_le, if◌then◌else◌, List, length, Option, Some, None, refl, ap, sym, ◌∙◌, slice_get, subst, arith, lit≤, ℤ, pos, nat_lt, nat_eq}
 use Rattle.std.proofs.lemmas.Bool.Decides.{nat_tests}
 use Rattle.guest_words.specs.declared.hart.Hart.{Hart}
 use Rattle.guest_words.specs.declared.hart.Slot.{Slot}
@@ -27,7 +27,7 @@ use Rattle.guest_words.specs.Instructions.{instruction_of}
 use Rattle.guest_words.specs.Harts.{reg, past}
 use Rattle.guest_words.specs.HartAct.{hart_act, arrived_or, arrival_of, fetched_act, act_of_inst, act_of_class, store_act, write_of, jump_to, linked, first, second, place_of}
 use Rattle.guest_words.specs.Effects.{class_of, is_taken, target_of}
-use Rattle.guest_words.specs.Calls.{request_of, reply_of, cut, reply_of_transfer, efault, makes_hart, child_in}
+use Rattle.guest_words.specs.Calls.{request_of, reply_of, cut, reply_of_transfer, ebadf, efault, makes_hart, child_in}
 use Rattle.guest_words.specs.CallChanges.{facts_of, is_usable, is_readable, word_at, any_other, is_live, free_slot}
 use Rattle.guest_words.specs.Act.{StateAct, Ordinary, Fault, Request, Arrival, End, Absent, act_of, act_of_slot, act_of_call, in_state, replied, fits, is_failure, is_served}
 use Rattle.guest_words.specs.Endings.{is_fault, is_end}
@@ -207,11 +207,11 @@ within_either call h s false x y p q = q
 transfer_within : (call : Call) (size : ℕ) (usable reached : Bool) (h : ℕ) (s : State) → (reached ≡ true → IsWithin (replied call (reply.Port (cut size)) h s))
     → ((v : ℤ) → IsWithin (replied call (reply.Value v) h s)) → IsWithin (replied call (reply_of_transfer size usable reached) h s)
 transfer_within call size usable reached h s goes values =
-    within_either call h s (not usable) _ _ (values _) (within_either call h s (size == 0) _ _ (values _) (by reached goes))
+    within_either call h s (not usable) _ _ (values ebadf) (within_either call h s (size == 0) _ _ (values (pos 0)) (by reached goes))
   where
     by : (b : Bool) → (b ≡ true → IsWithin (replied call (reply.Port (cut size)) h s)) → IsWithin (replied call (if not b then reply.Value efault else reply.Port (cut size)) h s)
     by true goes = goes refl
-    by false goes = values _
+    by false goes = values efault
 
 call_within : (call : Call) (h : ℕ) (s : State) → IsWithin (act_of_call call h s)
 unfolding act_of_call reply_of facts_of
