@@ -1,0 +1,5 @@
+mod Flags
+mod InPlace
+mod OneWaiter
+mod OwnSlots
+mod Taken

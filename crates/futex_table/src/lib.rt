@@ -1,0 +1,11 @@
+//! The harts that wait to be woken, in their order.
+#![tactic(auto)]
+
+mod queue;
+#[cfg(test)]
+mod tests;
+mod waking;
+mod woken;
+
+pub use queue::{Queue, SLOTS};
+pub use woken::Woken;

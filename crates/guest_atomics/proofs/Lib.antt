@@ -1,0 +1,2 @@
+mod EachHart
+mod FreeHarts

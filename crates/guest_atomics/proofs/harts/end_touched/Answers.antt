@@ -1,0 +1,7 @@
+use Rattle.guest_words.specs.Harts.{touched}
+use Rattle.guest_atomics.proofs.EachHart.{map-next}
+use Rattle.guest_atomics.proofs.harts.end_touched.Goals as goal
+
+pub loop-hart-preserved : goal.loop-hart-preserved
+loop-hart-preserved c =
+    map-next (touched c.args.address c.args.size) c.deref_mut-hart-items.result.now c.loop-hart.hart-items c.loop-hart.hart-index _ c.touch.new.hart c.loop-hart-test.true c.loop-hart.auto.hart-items c.loop-hart.invariant c.touch.ensures.value

@@ -1,0 +1,8 @@
+use Rattle.std.proofs.Common.{◌≡◌, ◌++◌, map, take, drop}
+use Rattle.guest_words.specs.Harts.{touched}
+use Rattle.guest_atomics.proofs.harts.end_touched.Given as goal
+
+abbrev pub invariant-loop-hart : goal.invariant-loop-hart
+invariant-loop-hart l =
+    l.hart-items
+    ≡ map (touched l.address l.size) (take l.hart-index l.initial.hart-items) ++ drop l.hart-index l.initial.hart-items
