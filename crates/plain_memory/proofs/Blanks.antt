@@ -1,19 +1,18 @@
 -- Pages of zeros and the bytes in them, address by address: together the memory at the start.
-use Rattle.std.proofs.Common.{◌≡◌, ◌≢◌, ℕ, zero, suc, ◌+◌, ◌-◌, ◌/◌, ◌<◌, ◌≤◌, ◌==◌, ◌&&◌, nat_le, nat_lt, Bool, true, false, cond, List, [], ◌∷◌, length, get_or, Option, Some, None, refl, sym, ap, ◌∙◌, subst, arith, ◌⊎◌, inl, inr, if◌then◌else◌, slice_index, drop, take}
+use Rattle.std.proofs.Common.{◌≡◌, ◌≢◌, ℕ, suc, ◌+◌, ◌-◌, ◌/◌, ◌<◌, ◌≤◌, ◌&&◌, nat_le, nat_lt, Bool, true, false, cond, List, [], ◌∷◌, length, get_or, Option, Some, None, refl, sym, ap, ◌∙◌, arith, ◌⊎◌, inl, inr, if◌then◌else◌, slice_index, drop, take}
 use Rattle.std.proofs.lemmas.List.{take_all}
 use Rattle.std.specs.Option.{option_or}
 use Rattle.std.specs.Bool.{Decides, one_answer}
 use Rattle.std.specs.List.{All, find}
-use Rattle.std.specs.Ordering.{nat_cmp, eq_by_cmp}
 use Rattle.std.specs.Cmp.{nat_cmp_total}
-use Rattle.std.specs.FinMap.{get, get-insert, get-empty, empty, same_map, nat_cmp-IsAntisymmetric}
+use Rattle.std.specs.FinMap.{get, get-insert, same_map, nat_cmp-IsAntisymmetric}
 use Rattle.std.proofs.lemmas.Bool.Decides.{nat_tests, leb_tells, Decides-and, Decides-ltb}
 use Rattle.guest_words.specs.declared.image.Rights.{Rights}
 use Rattle.guest_words.specs.declared.image.Cell.{Cell}
 use Rattle.guest_words.specs.declared.image.Load.{Load}
 use Rattle.guest_words.specs.Space.{Space, with_cell, with_byte, with_bytes}
-use Rattle.guest_words.specs.Image.{pages_of, contains, IsLoad}
-use Rattle.guest_words.specs.Start.{is_in_pages, is_in_bytes, is_in_stack, stack_cell, filled as byte_filled, loaded_cell, cell_at, memory_of}
+use Rattle.guest_words.specs.Image.{IsLoad}
+use Rattle.guest_words.specs.Start.{is_in_pages, is_in_bytes, is_in_stack, stack_cell, filled as byte_filled, loaded_cell, memory_of}
 use Rattle.guest_words.proofs.PageLaws.{contains-range}
 use Rattle.guest_words.proofs.StartMemory.{addresses_tell, get-memory_of, get-memory_of_past}
 use Rattle.plain_memory.specs.Blank.{zero_cell, zeros_in, blank_of, blank_in, filled}
@@ -95,7 +94,7 @@ get-with_bytes m p (b ∷ bytes) a =
           ap (λ t. overwritten (if t then Some (slice_index bytes (a - (p + 1))) else None) (get (with_byte m p b) a)) later
           ∙ ap (get (with_byte m p b)) same ∙ get-with_byte_same m p b ∙ ap (λ q. overwritten (Some b) (get m q)) (sym same)
           ∙ sym (ap (λ t. overwritten (if t then Some (slice_index (b ∷ bytes) (a - p)) else None) (get m a)) here
-              ∙ ap (λ i. overwritten (Some (slice_index (b ∷ bytes) i)) (get m a)) none)
+          ∙ ap (λ i. overwritten (Some (slice_index (b ∷ bytes) i)) (get m a)) none)
       | inr s ↦
           let other = s.1 in
           let same : (nat_le (p + 1) a && nat_lt a (p + 1 + length bytes)) ≡ (nat_le p a && nat_lt a (p + suc (length bytes))) = grind (arith, nat_tests) in

@@ -1,8 +1,8 @@
 -- Numbers and ranges, byte by byte.
-use Rattle.std.proofs.Common.{◌≡◌, ℕ, zero, suc, ◌+◌, ◌-◌, ◌*◌, ◌/◌, ◌%◌, ◌^◌, ◌<◌, ◌≤◌, Bool, true, false, ◌&&◌, List, [], ◌∷◌, ◌++◌, length, drop, get_or, refl, sym, ap, ◌∙◌, arith}
+use Rattle.std.proofs.Common.{◌≡◌, ℕ, zero, suc, ◌+◌, ◌-◌, ◌*◌, ◌/◌, ◌%◌, ◌^◌, ◌<◌, ◌≤◌, Bool, true, false, ◌&&◌, [], ◌∷◌, sym, ap, ◌∙◌, arith}
 use Rattle.std.specs.FinMap.{get}
 use Rattle.guest_words.specs.declared.image.Rights.{Rights}
-use Rattle.guest_words.specs.Space.{Space, has_right, each_has, byte_of, bytes_at, number_of, number_at, low_bytes, with_byte, with_bytes}
+use Rattle.guest_words.specs.Space.{Space, has_right, each_has, byte_of, bytes_at, number_at, low_bytes, with_byte, with_bytes}
 
 less_one : (n i : ℕ) → i < n → n - i ≡ suc (n - (i + 1))
 less_one n i below = omega arith
@@ -22,7 +22,7 @@ number_at-split m p (suc a) b =
     let there : p + 1 + a ≡ p + suc a = omega arith in
     let low = byte_of (get m p) in
     let rest : number_at m (p + 1) (a + b) ≡ number_at m (p + 1) a + 256 ^ a * number_at m (p + suc a) b =
-        number_at-split m (p + 1) a b ∙ ap (λ q. number_at m (p + 1) a + 256 ^ a * number_at m q b) there in
+    number_at-split m (p + 1) a b ∙ ap (λ q. number_at m (p + 1) a + 256 ^ a * number_at m q b) there in
     let power : 256 ^ suc a ≡ 256 * 256 ^ a = grind arith in
     ap (number_at m p) longer ∙ ap (λ n. low + 256 * n) rest ∙ regroup low (number_at m (p + 1) a) (256 ^ a) (number_at m (p + suc a) b) ∙ sym (ap (λ n. low + 256 * number_at m (p + 1) a + n * number_at m (p + suc a) b) power)
   where

@@ -1,4 +1,4 @@
-use Rattle.std.proofs.Common.{◌≡◌, ◌∙◌, ◌+◌, ◌-◌, ◌++◌, [], ◌∷◌, ap, sym, append-nil, append_assoc}
+use Rattle.std.proofs.Common.{◌∙◌, ◌+◌, ◌-◌, ◌++◌, [], ◌∷◌, ap, sym, append-nil, append_assoc}
 use Rattle.guest_words.specs.Space.{bytes_at}
 use Rattle.plain_memory.proofs.Bytewise.{bytes_at-next, bytes_at-done, number_at_1}
 use Rattle.plain_memory.proofs.memory.Memory.bytes_at.Goals as goal
@@ -15,6 +15,6 @@ loop-i-preserved c =
 pub returns : goal.returns
 returns c = record {
   ok = c.of.ensures.list ∙ sym (append-nil c.loop-i.bytes.items)
-  ∙ sym (ap (λ xs. c.loop-i.bytes.items ++ xs) (bytes_at-done c.args.self.now c.args.place c.args.count c.loop-i.i c.loop-i-test.false))
-  ∙ c.loop-i.invariant
+      ∙ sym (ap (λ xs. c.loop-i.bytes.items ++ xs) (bytes_at-done c.args.self.now c.args.place c.args.count c.loop-i.i c.loop-i-test.false))
+      ∙ c.loop-i.invariant;
 }

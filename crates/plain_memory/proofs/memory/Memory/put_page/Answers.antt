@@ -1,4 +1,4 @@
-use Rattle.std.proofs.Common.{◌≡◌, ◌∙◌, ap, sym, subst, refl, not, true, false, Bool}
+use Rattle.std.proofs.Common.{◌∙◌, ap, sym, subst}
 use Rattle.std.specs.FinMap.{get}
 use Rattle.plain_memory.specs.Blank.{zero_in}
 use Rattle.std.specs.Option.{option_or}
