@@ -7,25 +7,21 @@ use std::test::Fail;
 /// A number written over the file, from a place on, in so many bytes.
 type Change = (usize, usize, u64);
 
-/// A program with one load and, from 132 on, two functions with their names and three section
-/// headers: an empty one, the symbol table's at 288 and the string table's at 352.
-const PARTS: [Change; 32] = [
+/// A program with, from 132 on, two functions with their names and three section headers: an empty
+/// one, the symbol table's at 288 and the string table's at 352. From 416 on it has four program
+/// headers: a load, a note, the stack's flags and RISC-V attributes.
+const PARTS: [Change; 35] = [
     (0, 8, 0x0001_0102_464c_457f),
     (16, 2, 2),
     (18, 2, 243),
     (20, 4, 1),
     (24, 8, 0x10000),
-    (32, 8, 64),
+    (32, 8, 416),
     (40, 8, 224),
     (54, 2, 56),
-    (56, 2, 1),
+    (56, 2, 4),
     (58, 2, 64),
     (60, 2, 3),
-    (64, 4, 1),
-    (68, 4, 5),
-    (80, 8, 0x10000),
-    (96, 8, 132),
-    (104, 8, 256),
     (156, 4, 1),
     (160, 1, 0x12),
     (162, 2, 1),
@@ -42,6 +38,14 @@ const PARTS: [Change; 32] = [
     (344, 8, 24),
     (356, 4, 3),
     (376, 8, 204),
+    (416, 4, 1),
+    (420, 4, 5),
+    (432, 8, 0x10000),
+    (448, 8, 132),
+    (456, 8, 256),
+    (472, 4, 4),
+    (528, 4, 0x6474_e551),
+    (584, 4, 0x7000_0003),
 ];
 
 fn write(file: &mut Vec<u8>, change: Change) {
@@ -57,7 +61,7 @@ fn write(file: &mut Vec<u8>, change: Change) {
 fn changed(alloc: Global, change: Change) -> Result<Vec<u8>, AllocError> {
     let mut file = vec![in alloc; 0; 204]?;
     file.extend_from_slice(b"\0_start\0handle\0")?;
-    file.resize(416, 0)?;
+    file.resize(640, 0)?;
     for part in PARTS {
         write(&mut file, part);
     }
@@ -128,7 +132,7 @@ fn symbols_left_out(rt: HostRuntime) -> Result<(), Fail> {
 /// Each rule that one change of the program breaks.
 const FAULTS: [(Change, SymFault, u64); 11] = [
     ((58, 2, 32), SymFault::SectionSize, 58),
-    ((60, 2, 4), SymFault::SectionsOutside, 40),
+    ((60, 2, 7), SymFault::SectionsOutside, 40),
     ((40, 8, u64::MAX), SymFault::SectionsOutside, 40),
     ((344, 8, 23), SymFault::EntrySize, 344),
     ((320, 8, 25), SymFault::EntrySize, 320),
