@@ -1,0 +1,94 @@
+-- What the map of the pages has at an address.
+use Rattle.std.proofs.Common.{◌≡◌, ℕ, zero, suc, ◌+◌, ◌-◌, ◌*◌, ◌/◌, ◌%◌, ◌<◌, ◌≤◌, ◌≢◌, Bool, true, false, cond, List, [], ◌∷◌, ◌++◌, length, get_or, Option, Some, None, refl, sym, ap, ◌∙◌, subst, arith, ◌==◌, ◌⊎◌, inl, inr, if◌then◌else◌}
+use Rattle.std.proofs.lemmas.Bool.Decides.{eqb_tells}
+use Rattle.std.proofs.Math.Nat.{div-add-mod, mod-lt}
+use Rattle.std.specs.Ordering.{nat_cmp, eq_by_cmp, match_ordering}
+use Rattle.std.specs.Cmp.{nat_cmp_total, unsigned_tied}
+use Rattle.std.specs.FinMap.{get, find, get-from_entries}
+use Rattle.std.specs.BTreeMap.{is_at, insert_entry}
+use Rattle.std.specs.declared.cmp.Ordering.TheVariants.{Less, Equal, Greater}
+use Rattle.std.specs.Map.{lookup}
+use Rattle.guest_words.specs.declared.image.Rights.{Rights}
+use Rattle.guest_words.specs.declared.image.Cell.{Cell}
+use Rattle.plain_memory.specs.declared.page.Page.{Page}
+use Rattle.plain_memory.specs.Pages.{run_of, runs_of, cells_of, AreWhole}
+
+abbrev pub or_else : {X : Type 0} → Option X → Option X → Option X
+or_else (Some x) y = Some x
+or_else None y = y
+
+-- the test at a key, told apart
+pub tied_tells : (x y : ℕ) → ((eq_by_cmp nat_cmp x y ≡ true) × (x ≡ y)) ⊎ ((eq_by_cmp nat_cmp x y ≡ false) × (x ≢ y))
+tied_tells x y = elim (eqb_tells x y) [ inl p ↦ inl (unsigned_tied x y ∙ p.0, p.1) | inr p ↦ inr (unsigned_tied x y ∙ p.0, p.1) ]
+
+or_else_cond : {X : Type 0} (b : Bool) (x : X) (y z : Option X) → cond b (Some x) (or_else y z) ≡ or_else (cond b (Some x) y) z
+or_else_cond true x y z = refl
+or_else_cond false x y z = refl
+
+pub find-append : (es fs : List (ℕ × Cell)) (q : ℕ) → find nat_cmp q (es ++ fs) ≡ or_else (find nat_cmp q es) (find nat_cmp q fs)
+find-append [] fs q = refl
+find-append (e ∷ es) fs q = ap (cond (eq_by_cmp nat_cmp q e.0) (Some e.1)) (find-append es fs q) ∙ or_else_cond (eq_by_cmp nat_cmp q e.0) e.1 _ _
+
+pub find-run_inside : (at : ℕ) (r : Rights) (bs : List ℕ) (q i : ℕ) → q ≡ at + i → i < length bs → find nat_cmp q (run_of at r bs) ≡ Some (record { byte = get_or bs i 0; rights = r })
+find-run_inside at r [] q i e h = absurd (omega arith)
+find-run_inside at r (b ∷ bs) q zero e h =
+    let same : q ≡ at = omega arith in
+    elim (tied_tells q at) [ inl p ↦ ap (λ t. cond t (Some (record { byte = b; rights = r })) (find nat_cmp q (run_of (at + 1) r bs))) p.0 | inr p ↦ absurd (p.1 same) ]
+find-run_inside at r (b ∷ bs) q (suc i) e h =
+    let next : q ≡ at + 1 + i = omega arith in
+    let less : i < length bs = omega arith in
+    elim (tied_tells q at) [
+      | inl p ↦ absurd (let same = p.1 in omega arith)
+      | inr p ↦ ap (λ t. cond t (Some (record { byte = b; rights = r })) (find nat_cmp q (run_of (at + 1) r bs))) p.0 ∙ find-run_inside (at + 1) r bs q i next less
+    ]
+
+pub find-run_outside : (at : ℕ) (r : Rights) (bs : List ℕ) (q : ℕ) → (at ≤ q → q < at + length bs → ⊥) → find nat_cmp q (run_of at r bs) ≡ None
+find-run_outside at r [] q out = refl
+find-run_outside at r (b ∷ bs) q out =
+    elim (tied_tells q at) [
+      | inl p ↦ absurd (let same = p.1 in out (omega arith) (omega arith))
+      | inr p ↦ ap (λ t. cond t (Some (record { byte = b; rights = r })) (find nat_cmp q (run_of (at + 1) r bs))) p.0
+          ∙ find-run_outside (at + 1) r bs q (λ l h. out (omega arith) (omega arith))
+    ]
+
+abbrev pub cell_in : Option Page → ℕ → Option Cell
+cell_in (Some p) i = Some (record { byte = get_or p.bytes i 0; rights = p.rights })
+cell_in None i = None
+
+cell_in_cond : (b : Bool) (p : Page) (o : Option Page) (i : ℕ) → cell_in (cond b (Some p) o) i ≡ cond b (cell_in (Some p) i) (cell_in o i)
+cell_in_cond true p o i = refl
+cell_in_cond false p o i = refl
+
+find-runs : (es : List (ℕ × Page)) → AreWhole es → (n i q : ℕ) → q ≡ n * 4096 + i → i < 4096 → find nat_cmp q (runs_of es) ≡ cell_in (lookup (is_at (nat_cmp n)) es) i
+find-runs [] whole n i q e h = refl
+find-runs (x ∷ es) whole n i q e h =
+    find-append (run_of (x.0 * 4096) x.1.rights x.1.bytes) (runs_of es) q
+    ∙ elim (tied_tells n x.0) [
+      | inl p ↦
+          let here : q ≡ x.0 * 4096 + i = let same = p.1 in omega arith in
+          let less : i < length x.1.bytes = let all = whole.0 in omega arith in
+          ap (λ o. or_else o (find nat_cmp q (runs_of es))) (find-run_inside (x.0 * 4096) x.1.rights x.1.bytes q i here less)
+          ∙ sym (ap (λ t. cell_in (cond t (Some x.1) (lookup (is_at (nat_cmp n)) es)) i) p.0)
+      | inr p ↦
+          ap (λ o. or_else o (find nat_cmp q (runs_of es))) (find-run_outside (x.0 * 4096) x.1.rights x.1.bytes q (λ l r. p.1 (let all = whole.0 in omega arith)))
+          ∙ find-runs es whole.1 n i q e h
+          ∙ sym (ap (λ t. cell_in (cond t (Some x.1) (lookup (is_at (nat_cmp n)) es)) i) p.0)
+    ]
+
+pub get-cells : (es : List (ℕ × Page)) → AreWhole es → (q : ℕ) → get (cells_of es) q ≡ cell_in (lookup (is_at (nat_cmp (q / 4096))) es) (q % 4096)
+unfolding cells_of
+get-cells es whole q =
+    get-from_entries nat_cmp_total (runs_of es) q
+    ∙ find-runs es whole (q / 4096) (q % 4096) q (sym (div-add-mod q 4096) ∙ omega arith) (omega arith)
+
+pub AreWhole-insert_entry : (es : List (ℕ × Page)) (k : ℕ) (p : Page) → AreWhole es → length p.bytes ≡ 4096 → AreWhole (insert_entry nat_cmp es k p)
+AreWhole-insert_entry [] k p whole l = (l, tt)
+AreWhole-insert_entry (e ∷ es) k p whole l =
+    elim (nat_cmp k e.0) as (λ r. AreWhole (match_ordering r ((k, p) ∷ e ∷ es) ((e.0, p) ∷ es) (e ∷ insert_entry nat_cmp es k p))) [
+      | Less ↦ (l, whole)
+      | Equal ↦ (l, whole.1)
+      | Greater ↦ (whole.0, AreWhole-insert_entry es k p whole.1 l)
+    ]
+
+pub cell_in_if : (n m : ℕ) (p : Page) (o : Option Page) (i : ℕ) → cell_in (cond (is_at (nat_cmp n) m) (Some p) o) i ≡ (if n == m then cell_in (Some p) i else cell_in o i)
+cell_in_if n m p o i = cell_in_cond (is_at (nat_cmp n) m) p o i ∙ ap (λ b. cond b (cell_in (Some p) i) (cell_in o i)) (unsigned_tied n m)

@@ -1,0 +1,20 @@
+use Rattle.std.proofs.Common.{◌≡◌, ◌∙◌, ℕ, ap, sym, Option, None}
+use Rattle.std.specs.Ordering.{nat_cmp}
+use Rattle.std.specs.Option.{option_or}
+use Rattle.std.specs.FinMap.{get, get-empty}
+use Rattle.guest_words.specs.declared.image.Cell.{Cell}
+use Rattle.plain_memory.specs.Blank.{zeros_in, blank_in, filled}
+use Rattle.plain_memory.proofs.Blanks.{memory_of-filled, stack_in}
+use Rattle.plain_memory.proofs.memory.Memory.of.Goals as goal
+
+pub returns : goal.returns
+returns c =
+    let loads = c.args.loads.now in
+    record {
+      ok = c.fill_loads.ensures.value
+      ∙ ap (λ ls. filled ls c.put_loads.new.self) c.items-2.ensures.list
+      ∙ memory_of-filled loads c.put_loads.new.self c.requires.loads (λ a.
+        c.in_ok-put_loads.ensures.ok a
+        ∙ ap (λ ls. option_or (get c.put_pages.new.self a) (blank_in ls a)) c.items.ensures.list
+        ∙ ap (λ o. option_or o (blank_in loads a)) (c.in_ok-put_pages.ensures.ok a ∙ ap (λ o. option_or o (stack_in a)) (ap (λ m. get m a) c.new-memory.ensures.none ∙ get-empty nat_cmp a)))
+    }

@@ -1,0 +1,39 @@
+-- Memory at the start, built in two steps: pages of zeros, then the bytes of the loads.
+use Rattle.std.specs.Prelude.{◌≡◌, ℕ, ◌+◌, ◌/◌, ◌&&◌, ◌==◌, nat_le, nat_lt, if◌then◌else◌, List, [], ◌∷◌, Option, Some, None, find}
+use Rattle.std.specs.Option.{option_or}
+use Rattle.std.specs.FinMap.{get}
+use Rattle.guest_words.specs.declared.image.Rights.{Rights}
+use Rattle.guest_words.specs.declared.image.Cell.{Cell}
+use Rattle.guest_words.specs.declared.image.Load.{Load}
+use Rattle.guest_words.specs.Space.{Space, with_bytes}
+use Rattle.guest_words.specs.Start.{is_in_pages}
+
+abbrev pub zero_cell : Rights → Cell
+zero_cell rights = record { byte = 0; rights = rights }
+
+-- the second memory has what the first has, and these cells at all other addresses
+abbrev pub Brings : (ℕ → Option Cell) → Space → Space → Type 0
+Brings cells old new = (address : ℕ) → get new address ≡ option_or (get old address) (cells address)
+
+-- what a page of zeros has at an address
+abbrev pub zero_in : ℕ → Rights → ℕ → Option Cell
+zero_in page rights address = if page == address / 4096 then Some (zero_cell rights) else None
+
+-- what so many pages of zeros have at an address
+abbrev pub zeros_in : ℕ → ℕ → Rights → ℕ → Option Cell
+zeros_in page count rights address =
+    if nat_le page (address / 4096) && nat_lt (address / 4096) (page + count)
+    then Some (zero_cell rights) else None
+
+abbrev pub blank_of : ℕ → Option Load → Option Cell
+blank_of address None = None
+blank_of address (Some load) = Some (zero_cell load.rights)
+
+-- what the pages of loads have at an address before their bytes are stored
+abbrev pub blank_in : List Load → ℕ → Option Cell
+blank_in loads address = blank_of address (find (is_in_pages address) loads)
+
+-- memory with the bytes of the loads stored, those of the first load last
+unfoldable pub filled : List Load → Space → Space
+filled [] m = m
+filled (load ∷ loads) m = with_bytes (filled loads m) load.address load.bytes
