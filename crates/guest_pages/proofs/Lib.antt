@@ -1,0 +1,9 @@
+pub mod Adding
+pub mod Lookup
+pub mod Lows
+pub mod Missing
+pub mod Past
+pub mod Placing
+pub mod Ranging
+pub mod Spelling
+pub mod Storing

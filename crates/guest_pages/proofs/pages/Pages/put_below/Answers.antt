@@ -1,0 +1,12 @@
+use Rattle.std.proofs.Common.{◌≡◌, ◌∙◌, ◌+◌, ◌-◌, ◌/◌, ap, sym}
+use Rattle.guest_words.specs.Space.{with_bytes, low_bytes}
+use Rattle.plain_memory.proofs.Bytewise.{stored-next, stored-done}
+use Rattle.guest_pages.proofs.pages.Pages.put_below.Goals as goal
+
+pub loop-i-preserved : goal.loop-i-preserved
+loop-i-preserved c =
+    ap (λ m. with_bytes m (c.args.address + (c.loop-i.i + 1)) (low_bytes (c.args.width - (c.loop-i.i + 1)) (c.loop-i.rest / 256))) c.set_byte.ensures.value
+    ∙ sym (stored-next c.loop-i.self c.args.address c.args.width c.loop-i.i c.loop-i.rest c.loop-i-test.true) ∙ c.loop-i.invariant
+
+pub returns : goal.returns
+returns c = record { value = sym (stored-done c.loop-i.self c.args.address c.args.width c.loop-i.i c.loop-i.rest c.loop-i-test.false) ∙ c.loop-i.invariant }
