@@ -47,6 +47,7 @@ impl Harts {
     }
 
     /// The harts, by slot.
+    #[inline]
     pub fn items(&self) -> &[Hart]
         ensures list { result.now ≡ self.now }
     {
@@ -54,6 +55,7 @@ impl Harts {
     }
 
     /// The hart in a slot, to be changed in place.
+    #[inline]
     pub fn hart_mut(&mut self, slot: usize) -> &mut Hart
         requires within { slot < length self.old }
         ensures* lent { sem 𝓛 (LendsHart self.entry slot result) }
@@ -66,15 +68,9 @@ impl Harts {
         &mut self.items[slot]
     }
 
-    /// Whether some hart may have a reservation.
-    fn may_hold(&self) -> bool
-        ensures none { result ≡ false → All IsFree self.now }
-    {
-        self.others || has_reservation(&self.items, self.lent)
-    }
-
     /// Ends each reservation that has a byte among the `size` bytes from `address` on. Costs next
     /// to nothing where no hart has one. Takes no memory.
+    #[inline]
     pub fn touched(&mut self, address: u64, size: u64)
         ensures value { self.new ≡ map (touched address size) self.old }
     {
@@ -104,9 +100,18 @@ impl Harts {
             others: self.others,
         })
     }
+
+    /// Whether some hart may have a reservation.
+    #[inline]
+    fn may_hold(&self) -> bool
+        ensures none { result ≡ false → All IsFree self.now }
+    {
+        self.others || has_reservation(&self.items, self.lent)
+    }
 }
 
 /// Whether the hart in a slot has a reservation.
+#[inline]
 fn has_reservation(harts: &[Hart], slot: usize) -> bool
     ensures none { result ≡ false → IsFreeAt slot harts.now }
 {
