@@ -1,0 +1,48 @@
+-- The lines of the report: words with a space between, and a line feed.
+use Rattle.std.specs.Prelude.{ℕ, List, [], ◌∷◌, ◌++◌, codes}
+use Rattle.std.specs.Fmt.{decimal}
+use Rattle.guest_words.specs.Names.{fault_name}
+use Rattle.guest_words.specs.declared.fault.Fault.{Fault as FaultAt}
+use Rattle.guest_words.specs.declared.point.PointRef.{PointRef}
+use Rattle.guest_words.specs.declared.ending.Ending.{Ending}
+use Rattle.guest_words.specs.declared.ending.Ending.TheVariants.{Exit, Fault, Stuck, Budget}
+use Rattle.rescue_report.specs.Numbers.{hexadecimal, code_text}
+
+-- the words, with a space between them and a line feed at the end
+abbrev pub line : List (List ℕ) → List ℕ
+line [] = 10 ∷ []
+line (word ∷ []) = word ++ 10 ∷ []
+line (word ∷ next ∷ words) = word ++ 32 ∷ line (next ∷ words)
+
+-- the line of a number with its name
+abbrev pub count_line : List ℕ → ℕ → List ℕ
+count_line name number = line (name ∷ decimal number ∷ [])
+
+-- the line of a rescued call: how many rescued calls it lies in, then what was taken back
+abbrev pub rescue_line : ℕ → ℕ → PointRef → FaultAt → ℕ → ℕ → List ℕ
+rescue_line depth hart point fault steps records = line
+    (codes "rescue"
+    ∷ codes "depth" ∷ decimal depth
+    ∷ codes "hart" ∷ decimal hart
+    ∷ codes "point" ∷ hexadecimal point.entry
+    ∷ codes "fault" ∷ fault_name fault.name
+    ∷ codes "pc" ∷ hexadecimal fault.pc
+    ∷ codes "steps" ∷ decimal steps
+    ∷ codes "records" ∷ decimal records
+    ∷ codes "code" ∷ code_text point.ret
+    ∷ [])
+
+-- the words of an ending
+abbrev pub ending_words : Ending → List (List ℕ)
+ending_words (Exit hart code) = codes "exit" ∷ decimal code ∷ []
+ending_words (Fault hart fault) =
+    codes "fault" ∷ fault_name fault.name
+    ∷ codes "hart" ∷ decimal hart
+    ∷ codes "pc" ∷ hexadecimal fault.pc
+    ∷ []
+ending_words Stuck = codes "stuck" ∷ []
+ending_words Budget = codes "budget" ∷ []
+
+-- the last line
+abbrev pub end_line : Ending → List ℕ
+end_line ending = line (codes "end" ∷ ending_words ending)
