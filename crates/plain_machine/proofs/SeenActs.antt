@@ -36,7 +36,7 @@ use Rattle.plain_machine.specs.Acts.{built_in, built_slot, built_act, built_fetc
 use Rattle.plain_machine.specs.Steps.{IsServed, IsMade}
 use Rattle.plain_machine.specs.Legal.{is_arrival}
 use Rattle.plain_machine.specs.declared.see.Seen.TheVariants as seen_is
-use Rattle.plain_machine.specs.Seen.{named, sees_arrival, sees_fault, sees_end}
+use Rattle.plain_machine.specs.Seen.{named, IsServable, sees_arrival, sees_fault, sees_end}
 
 -- the act in the state, where the hart's act is built
 abbrev pub by_act : Option Act → ℕ → State → StateAct
@@ -129,7 +129,7 @@ fetch_made : (m : Space) (frames : ℕ) (hart : Hart) → IsMadeIf (built_fetch 
 fetch_made m frames hart = by (hart.pc % 4 == 0) (can_execute m hart.pc 4)
   where
     by : (aligned may : Bool) → IsMadeIf (if is_built_inst (if aligned && may then instruction_of (number_at m hart.pc 4) else None) hart frames
-            then Some (if not aligned then act.Fault FetchMisaligned else if not may then act.Fault FetchRights else act_of_inst m hart (instruction_of (number_at m hart.pc 4))) else None)
+        then Some (if not aligned then act.Fault FetchMisaligned else if not may then act.Fault FetchRights else act_of_inst m hart (instruction_of (number_at m hart.pc 4))) else None)
     by false may = tt
     by true false = tt
     by true true = inst_made m frames hart (instruction_of (number_at m hart.pc 4))
@@ -196,31 +196,30 @@ named-other Absent call s other = refl
 
 -- a request asks for few bytes, which end within the address space
 
-abbrev IsWithin : StateAct → Type 0
-IsWithin (Request w port asked place) = (place + asked ≤ 2 ^ 64) × (asked ≤ 65536)
-IsWithin _ = Unit {0}
+abbrev IsWithin : State → StateAct → Type 0
+IsWithin s a = IsServable s.memory (named a)
 
-within_either : (call : Call) (h : ℕ) (s : State) (b : Bool) (x y : Reply) → IsWithin (replied call x h s) → IsWithin (replied call y h s) → IsWithin (replied call (if b then x else y) h s)
+within_either : (call : Call) (h : ℕ) (s : State) (b : Bool) (x y : Reply) → IsWithin s (replied call x h s) → IsWithin s (replied call y h s) → IsWithin s (replied call (if b then x else y) h s)
 within_either call h s true x y p q = p
 within_either call h s false x y p q = q
 
-transfer_within : (call : Call) (size : ℕ) (usable reached : Bool) (h : ℕ) (s : State) → (reached ≡ true → IsWithin (replied call (reply.Port (cut size)) h s))
-    → ((v : ℤ) → IsWithin (replied call (reply.Value v) h s)) → IsWithin (replied call (reply_of_transfer size usable reached) h s)
+transfer_within : (call : Call) (size : ℕ) (usable reached : Bool) (h : ℕ) (s : State) → (reached ≡ true → IsWithin s (replied call (reply.Port (cut size)) h s))
+    → ((v : ℤ) → IsWithin s (replied call (reply.Value v) h s)) → IsWithin s (replied call (reply_of_transfer size usable reached) h s)
 transfer_within call size usable reached h s goes values =
     within_either call h s (not usable) _ _ (values ebadf) (within_either call h s (size == 0) _ _ (values (pos 0)) (by reached goes))
   where
-    by : (b : Bool) → (b ≡ true → IsWithin (replied call (reply.Port (cut size)) h s)) → IsWithin (replied call (if not b then reply.Value efault else reply.Port (cut size)) h s)
+    by : (b : Bool) → (b ≡ true → IsWithin s (replied call (reply.Port (cut size)) h s)) → IsWithin s (replied call (if not b then reply.Value efault else reply.Port (cut size)) h s)
     by true goes = goes refl
     by false goes = values efault
 
-call_within : (call : Call) (h : ℕ) (s : State) → IsWithin (act_of_call call h s)
+call_within : (call : Call) (h : ℕ) (s : State) → IsWithin s (act_of_call call h s)
 unfolding act_of_call reply_of facts_of
 call_within (request.Read fd place size) h s =
     transfer_within (request.Read fd place size) size _ (can_write s.memory place (cut size)) h s
-    (λ may. let fits : nat_le (place + cut size) (2 ^ 64) ≡ true = left _ _ may in (grind (arith, nat_tests, fits), omega arith)) (λ v. tt)
+    (λ may. (may, omega arith)) (λ v. tt)
 call_within (request.Write fd place size) h s =
     transfer_within (request.Write fd place size) size _ (can_read s.memory place (cut size)) h s
-    (λ may. let fits : nat_le (place + cut size) (2 ^ 64) ≡ true = left _ _ may in (grind (arith, nat_tests, fits), omega arith)) (λ v. tt)
+    (λ may. (may, omega arith)) (λ v. tt)
 call_within (request.Close fd) h s = within_either (request.Close fd) h s (is_usable s (request.Close fd)) _ _ (lit≤ tt, lit≤ tt) tt
 call_within (request.Exit code) h s = within_either (request.Exit code) h s (any_other is_live h s.slots) _ _ tt tt
 call_within (request.ExitGroup code) h s = tt
@@ -232,22 +231,33 @@ call_within (request.Wake place value) h s = within_either (request.Wake place v
 call_within (request.Clone flags stack parent tls child) h s =
     within_either (request.Clone flags stack parent tls child) h s (makes_hart flags) _ _ (by (free_slot s.slots)) tt
   where
-    by : (o : Option ℕ) → IsWithin (replied (request.Clone flags stack parent tls child) (child_in o) h s)
+    by : (o : Option ℕ) → IsWithin s (replied (request.Clone flags stack parent tls child) (child_in o) h s)
     by None = tt
     by (Some slot) = tt
 call_within request.Yield h s = tt
 call_within request.Tid h s = tt
 call_within request.Unknown h s = tt
 
-pub request_within : (s : State) (h : ℕ) (w : Way) (port asked place : ℕ) → seen s h ≡ Request w port asked place → (place + asked ≤ 2 ^ 64) × (asked ≤ 65536)
-request_within s h w port asked place is = subst IsWithin (sym (seen-is s h) ∙ is) (by (built_in s h))
+pub seen_within : (s : State) (h : ℕ) → IsServable s.memory (named (seen s h))
+seen_within s h = subst (IsWithin s) (sym (seen-is s h)) (by (built_in s h))
   where
-    by : (o : Option Act) → IsWithin (by_act o h s)
+    by : (o : Option Act) → IsWithin s (by_act o h s)
     by None = tt
     by (Some (act.Next hart write)) = tt
     by (Some (act.Fault name)) = tt
     by (Some (act.Call call)) = call_within call h s
     by (Some (act.Arrived point)) = tt
+
+ends_within : (may : Bool) (place asked : ℕ) → (nat_le (place + asked) (2 ^ 64) && may) ≡ true → place + asked ≤ 2 ^ 64
+ends_within may place asked is = let fits : nat_le (place + asked) (2 ^ 64) ≡ true = left _ _ is in grind (arith, nat_tests, fits)
+
+pub request_within : (s : State) (h : ℕ) (w : Way) (port asked place : ℕ) → seen s h ≡ Request w port asked place → (place + asked ≤ 2 ^ 64) × (asked ≤ 65536)
+request_within s h w port asked place is = by w (subst (λ a. IsServable s.memory (named a)) is (seen_within s h))
+  where
+    by : (w : Way) → IsServable s.memory (seen_is.Request w port asked place) → (place + asked ≤ 2 ^ 64) × (asked ≤ 65536)
+    by way.Read m = (ends_within _ place asked m.0, m.1)
+    by way.Write m = (ends_within _ place asked m.0, m.1)
+    by way.Close m = m
 
 -- a record that fits has no more bytes than were asked for
 failed_short : (call : Record) (asked : ℕ) (other : Bool) → (is_failure call || other) ≡ true → (other ≡ true → length call.bytes ≤ asked) → length call.bytes ≤ asked

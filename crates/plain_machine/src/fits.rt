@@ -50,18 +50,10 @@ impl Plain {
         }
     }
 
-    fn holds(
-        &self,
-        alloc: Global,
-        place: u64,
-        asked: u64,
-        bytes: &[u8],
-    ) -> Result<bool, MemoryWant>
+    fn holds(&self, alloc: Global, place: u64, asked: u64, bytes: &[u8]) -> Result<bool, MemoryWant>
         requires room { place + asked ≤ 2 ^ 64 }
         requires few { asked ≤ 65536 }
-        ensures ok {
-            IfOk result (λ is. is ≡ pointwise nat_eq bytes.now (bytes_at self.now.memory place asked))
-        }
+        ensures ok { IfOk result (λ is. is ≡ pointwise nat_eq bytes.now (bytes_at self.now.memory place asked)) }
     {
         let stored = self.memory.bytes_at(alloc, place, asked as u32)?;
         Ok(bytes == stored.items())
@@ -71,10 +63,8 @@ impl Plain {
 // A read gave so many bytes as it answers, and no more than were asked for.
 fn is_read(asked: u64, call: &Record) -> bool
     requires few { asked ≤ 65536 }
-    ensures value {
-        let size = length call.now.bytes in
-        result ≡ (is_count size call.now.answer && nat_le size asked)
-    }
+    ensures value { let size = length call.now.bytes in
+        result ≡ (is_count size call.now.answer && nat_le size asked) }
 {
     let size = call.bytes.items().len() as u64;
     size <= asked && is_count(size, call.answer)

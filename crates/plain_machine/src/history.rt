@@ -22,12 +22,10 @@ impl Model for History {
 
     ghost coded = { Prim.hlevel (codes, e.the_row.coded) };
 
-    ghost view = {
-        λ h. record {
-            entries = h.entries.items;
-            spare = vec_capacity h.entries - vec_len h.entries;
-        }
-    };
+    ghost view = { λ h. record {
+      entries = h.entries.items;
+      spare = vec_capacity h.entries - vec_len h.entries;
+    } };
 }
 
 impl History {

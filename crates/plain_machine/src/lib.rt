@@ -16,9 +16,9 @@ mod records;
 mod replay;
 mod see;
 mod slots;
-mod tests_of_slots;
 #[cfg(test)]
 mod tests;
+mod tests_of_slots;
 
 pub use entry::Entry;
 pub use history::History;

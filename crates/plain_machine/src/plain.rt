@@ -41,20 +41,18 @@ impl Model for Plain {
     ghost coded = { Prim.hlevel (codes, map.code {R = nat_cmp} coded_ℕ cell.the_row.coded) };
 
     // No act that is built makes a hart wait.
-    ghost view = {
-        λ p. record {
-            memory = p.memory;
-            slots = p.slots;
-            waiting = [];
-            next_tid = p.next_tid;
-            records = p.records;
-            steps = p.steps;
-            ending = p.ending;
-            points = p.points;
-            ports = p.ports;
-            budget = p.budget;
-        }
-    };
+    ghost view = { λ p. record {
+      memory = p.memory;
+      slots = p.slots;
+      waiting = [];
+      next_tid = p.next_tid;
+      records = p.records;
+      steps = p.steps;
+      ending = p.ending;
+      points = p.points;
+      ports = p.ports;
+      budget = p.budget;
+    } };
 
     ghost invariant = { λ p. p.steps ≤ p.budget };
 }
@@ -73,9 +71,7 @@ impl Plain {
         requires image { IsLoadList image.now.loads }
         requires some { 1 ≤ harts }
         requires most { harts ≤ 64 }
-        ensures ok {
-            IfOk result (λ plain. plain ≡ start_of image.now points.now harts ports budget)
-        }
+        ensures ok { IfOk result (λ plain. plain ≡ start_of image.now points.now harts ports budget) }
     {
         Ok(Plain {
             memory: Memory::of(alloc, &image.loads)?,

@@ -74,9 +74,7 @@ impl Plain {
         inside: &[Entry],
     ) -> Result<bool, MemoryWant>
         ensures legal { IfOk result (λ is. is ≡ legal_rescue hart point fault inside.now self.old) }
-        ensures after {
-            IfOk result (λ is. IsTrue is → self.new ≡ rescued hart point fault inside.now self.old)
-        }
+        ensures after { IfOk result (λ is. IsTrue is → self.new ≡ rescued hart point fault inside.now self.old) }
     {
         if !self.arrives(hart, point) {
             return Ok(false);
@@ -103,9 +101,7 @@ impl Plain {
         frames: usize,
     ) -> Result<bool, MemoryWant>
         ensures legal { IfOk result (λ is. is ≡ legal_inside entries.now hart frames self.old) }
-        ensures after {
-            IfOk result (λ is. IsTrue is → self.new ≡ state_after entries.now self.old)
-        }
+        ensures after { IfOk result (λ is. IsTrue is → self.new ≡ state_after entries.now self.old) }
     {
         for entry in entries {
             if !is_of(entry, hart) {
@@ -122,9 +118,7 @@ impl Plain {
     }
 
     fn apply_ran(&mut self, hart: u8, count: u32) -> bool
-        ensures legal {
-            result ≡ (may_act self.old hart && nat_lt 0 count && can_run count hart self.old)
-        }
+        ensures legal { result ≡ (may_act self.old hart && nat_lt 0 count && can_run count hart self.old) }
         ensures after { IsTrue result → self.new ≡ ran count hart self.old }
     {
         self.may_act(hart) && 0 < count && self.can_run(hart, count)
@@ -138,9 +132,7 @@ impl Plain {
     }
 
     fn apply_entered(&mut self, hart: u8, point: PointRef) -> Result<bool, MemoryWant>
-        ensures legal {
-            IfOk result (λ is. is ≡ (may_act self.old hart && is_arrival point (seen self.old hart)))
-        }
+        ensures legal { IfOk result (λ is. is ≡ (may_act self.old hart && is_arrival point (seen self.old hart))) }
         ensures after { IfOk result (λ is. IsTrue is → self.new ≡ enter hart point self.old) }
     {
         if !self.arrives(hart, point) {
@@ -151,10 +143,8 @@ impl Plain {
     }
 
     fn apply_called(&mut self, alloc: Global, hart: u8, call: &Record) -> Result<bool, MemoryWant>
-        ensures legal {
-            IfOk result
-            (λ is. is ≡ (may_act self.old hart && fits call.now (seen self.old hart) self.old))
-        }
+        ensures legal { IfOk result
+            (λ is. is ≡ (may_act self.old hart && fits call.now (seen self.old hart) self.old)) }
         ensures after { IfOk result (λ is. IsTrue is → self.new ≡ called hart call.now self.old) }
     {
         if !self.may_act(hart) {
@@ -183,9 +173,7 @@ impl Plain {
     ) -> Result<bool, MemoryWant>
         requires acts { may_act self.old hart ≡ true }
         requires act { seen self.old hart ≡ asking way port asked place }
-        ensures legal {
-            IfOk result (λ is. is ≡ fits call.now (asking way port asked place) self.old)
-        }
+        ensures legal { IfOk result (λ is. is ≡ fits call.now (asking way port asked place) self.old) }
         ensures after { IfOk result (λ is. IsTrue is → self.new ≡ called hart call.now self.old) }
     {
         let _left = self.steps < self.budget;

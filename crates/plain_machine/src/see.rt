@@ -3,7 +3,7 @@ ghost use Rattle.guest_words.specs.Act.{asks, in_state, replied};
 ghost use Rattle.guest_words.specs.Space.{bytes_at, can_read};
 ghost use Rattle.plain_machine.specs.Acts.{built_in};
 ghost use Rattle.plain_machine.specs.Built.{seen};
-ghost use Rattle.plain_machine.specs.Seen.{named};
+ghost use Rattle.plain_machine.specs.Seen.{named, IsServable};
 
 use crate::decide::decide;
 use crate::plain::Plain;
@@ -36,6 +36,7 @@ impl Plain {
     /// What the hart in a slot does next. Takes no memory.
     pub fn see(&self, hart: u8) -> Seen
         ensures value { result ≡ named (seen self.now hart) }
+        ensures within { IsServable self.now.memory result }
     {
         match self.act(hart) {
             None => Seen::Unbuilt,

@@ -8,5 +8,5 @@ pub loop-i-preserved : goal.loop-i-preserved
 loop-i-preserved c =
     let less : c.loop-i.i < length c.args.slots.now.items = search rules in
     changed-more (on_hart (touched c.args.from c.args.size)) c.args.slots.now.items c.loop-i.slots.items c.loop-i.i c.index_mut.result.now _ c.loop-i.invariant less c.index_mut.ensures.value (
-      let slot = c.index_mut.result.now in
-      ap (λ reservation. record slot { hart = record slot.hart { reservation = reservation } }) (sym c.kept-hart.ensures.value))
+    let slot = c.index_mut.result.now in
+    ap (λ reservation. record slot { hart = record slot.hart { reservation = reservation } }) (sym c.kept-hart.ensures.value))

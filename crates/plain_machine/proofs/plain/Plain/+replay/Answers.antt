@@ -23,13 +23,13 @@ apply-returns-in-Rescued-clause-after t c =
     c.apply_rescued.ensures.after
 
 pub apply_rescued-take_back-requires : goal.apply_rescued-take_back-requires
-apply_rescued-take_back-requires t c = 
+apply_rescued-take_back-requires t c =
     let s = c.args.self.now in
     let h = c.args.hart in
     let p = c.args.point in
     let inside = c.args.inside.now in
     record {
       same = ap (λ (x : State). x.budget)
-      (c.in_ok-apply_inside.ensures.after c.if-not-branch.false ∙ ap (state_after inside) (c.in_ok-enter.ensures.ok ∙ ap (enter h p) c.in_ok-call.ensures.ok))
-      ∙ state_after_keeps inside (enter h p s) ∙ enter_keeps h p s
+          (c.in_ok-apply_inside.ensures.after c.if-not-branch.false ∙ ap (state_after inside) (c.in_ok-enter.ensures.ok ∙ ap (enter h p) c.in_ok-call.ensures.ok))
+          ∙ state_after_keeps inside (enter h p s) ∙ enter_keeps h p s;
     }

@@ -32,11 +32,11 @@ returns-clause-after c = λ _.
     let fits : SFits w64 call.answer = search rules in
     c.close.ensures.value
     ∙ ap (with_closed h) (
-      c.answer.ensures.value
-      ∙ ap (λ v. with_hart (answered v) h c.place.new.self) (to_z-of_z w64 call.answer fits)
-      ∙ ap (with_hart (answered call.answer) h) (
-        c.place.ensures.value
-        ∙ ap (placed call.way c.args.place call.bytes) (c.in_ok-note.ensures.ok ∙ ap (λ (r : Record). with_record r s) c.in_ok-copy.ensures.ok)
-        ∙ sym (ap (λ a. placed call.way (place_of a) call.bytes (with_record call s)) c.requires.act)
-      )
+    c.answer.ensures.value
+    ∙ ap (λ v. with_hart (answered v) h c.place.new.self) (to_z-of_z w64 call.answer fits)
+    ∙ ap (with_hart (answered call.answer) h) (
+    c.place.ensures.value
+    ∙ ap (placed call.way c.args.place call.bytes) (c.in_ok-note.ensures.ok ∙ ap (λ (r : Record). with_record r s) c.in_ok-copy.ensures.ok)
+    ∙ sym (ap (λ a. placed call.way (place_of a) call.bytes (with_record call s)) c.requires.act)
+    )
     )

@@ -6,5 +6,5 @@ use Rattle.plain_machine.proofs.plain.Plain.is_end.Goals as goal
 
 pub returns : goal.returns
 returns c = record {
-  value = c.sees_end.ensures.value ∙ ap (sees_end c.args.code) c.see.ensures.value ∙ named-end c.args.code (seen c.args.self.now c.args.hart)
+  value = c.sees_end.ensures.value ∙ ap (sees_end c.args.code) c.see.ensures.value ∙ named-end c.args.code (seen c.args.self.now c.args.hart);
 }

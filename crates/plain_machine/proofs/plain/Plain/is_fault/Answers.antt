@@ -6,5 +6,5 @@ use Rattle.plain_machine.proofs.plain.Plain.is_fault.Goals as goal
 
 pub returns : goal.returns
 returns c = record {
-  value = c.sees_fault.ensures.value ∙ ap (sees_fault c.args.name) c.see.ensures.value ∙ named-fault c.args.name (seen c.args.self.now c.args.hart)
+  value = c.sees_fault.ensures.value ∙ ap (sees_fault c.args.name) c.see.ensures.value ∙ named-fault c.args.name (seen c.args.self.now c.args.hart);
 }

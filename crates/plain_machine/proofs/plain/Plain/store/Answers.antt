@@ -12,7 +12,7 @@ returns c =
     let bytes = low_bytes c.args.width c.args.value in
     record {
       value = ap (λ m. record s { memory = m; slots = c.touch.new.self }) c.store.ensures.value
-      ∙ ap (λ slots. record s { memory = with_bytes s.memory c.args.place bytes; slots = slots })
-      (c.touch.ensures.value ∙ ap (λ n. on_each (touched c.args.place n) s.slots) (sym (length-low_bytes c.args.width c.args.value)))
-      ∙ ap (stored c.args.place bytes) c.self.view_is
+          ∙ ap (λ slots. record s { memory = with_bytes s.memory c.args.place bytes; slots = slots })
+          (c.touch.ensures.value ∙ ap (λ n. on_each (touched c.args.place n) s.slots) (sym (length-low_bytes c.args.width c.args.value)))
+          ∙ ap (stored c.args.place bytes) c.self.view_is;
     }
