@@ -117,7 +117,8 @@ fn place_of(hart: &Hart, inst: &Inst) -> u64
 pub fn load(memory: &Memory, hart: &Hart, inst: &Inst, width: u8) -> Act
     requires class { class_of inst.now.op ≡ Class.Load width }
     requires registers { NamesRegisters inst.now }
-    ensures value { result ≡ load_act memory.now hart.now inst.now (place_of hart.now inst.now) width }
+    ensures value { result ≡ load_act memory.now hart.now inst.now
+        (place_of hart.now inst.now) width }
 {
     let place = place_of(hart, inst);
     if !memory.can_read(place, u64::from(width)) {
@@ -162,7 +163,8 @@ fn sign_extended_16(n: u16) -> u64
 /// Writes a register to memory.
 pub fn store(memory: &Memory, hart: &Hart, inst: &Inst, width: u8) -> Act
     requires registers { NamesRegisters inst.now }
-    ensures value { result ≡ store_act memory.now hart.now inst.now (place_of hart.now inst.now) width }
+    ensures value { result ≡ store_act memory.now hart.now inst.now
+        (place_of hart.now inst.now) width }
 {
     let place = place_of(hart, inst);
     if !memory.can_write(place, u64::from(width)) {

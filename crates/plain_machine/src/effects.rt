@@ -92,7 +92,8 @@ impl Plain {
     }
 
     fn leave(&mut self, h: u8, code: u64)
-        ensures value { self.new ≡ record self.old { slots = changed (left code) h self.old.slots } }
+        ensures value { self.new
+            ≡ record self.old { slots = changed (left code) h self.old.slots } }
     {
         self.slots.leave(h, code);
     }

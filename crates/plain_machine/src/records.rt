@@ -22,7 +22,8 @@ impl Model for Records {
 
     ghost view = { λ r. r.items.items };
 
-    ghost invariant = { λ r. r.bytes ≡ min (sum_by (λ x. length x.bytes) r.items.items) (2 ^ 64 - 1) };
+    ghost invariant = { λ r. r.bytes
+        ≡ min (sum_by (λ x. length x.bytes) r.items.items) (2 ^ 64 - 1) };
 }
 
 impl Records {
