@@ -37,7 +37,8 @@ unfoldable mutual
 
   pub rescue_lines_of_row : {m : _} → Row_of-Entry m → ℕ → List ℕ
   rescue_lines_of_row end_of-Entry depth = []
-  rescue_lines_of_row (more_of-Entry e rest) depth = rescue_lines e depth ++ rescue_lines_of_row rest depth
+  rescue_lines_of_row (more_of-Entry e rest) depth =
+      rescue_lines e depth ++ rescue_lines_of_row rest depth
 
 abbrev pub rescue_lines_of_all : List Entry → ℕ → List ℕ
 rescue_lines_of_all [] depth = []

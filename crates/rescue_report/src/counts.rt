@@ -21,7 +21,8 @@ impl Counts {
     /// The counts of a list of entries.
     pub fn of(entries: &[Entry]) -> Result<Counts, MemoryWant>
         ensures steps { IfOk result (λ counts. counts.steps ≡ steps_of_all entries.now) }
-        ensures records { IfOk result (λ counts. counts.records ≡ length (records_of_all entries.now)) }
+        ensures records { IfOk result
+            (λ counts. counts.records ≡ length (records_of_all entries.now)) }
         ensures rescues { IfOk result (λ counts. counts.rescues ≡ rescues_of_all entries.now) }
     {
         let mut counts = Counts {
@@ -36,8 +37,10 @@ impl Counts {
     #[cycle(counts)]
     fn add_all(&mut self, entries: &[Entry]) -> Result<(), MemoryWant>
         ensures steps { OnOk result (self.new.steps ≡ self.old.steps + steps_of_all entries.now) }
-        ensures records { OnOk result (self.new.records ≡ self.old.records + length (records_of_all entries.now)) }
-        ensures rescues { OnOk result (self.new.rescues ≡ self.old.rescues + rescues_of_all entries.now) }
+        ensures records { OnOk result
+            (self.new.records ≡ self.old.records + length (records_of_all entries.now)) }
+        ensures rescues { OnOk result
+            (self.new.rescues ≡ self.old.rescues + rescues_of_all entries.now) }
     {
         for entry in entries {
             self.add(entry)?;
@@ -49,7 +52,8 @@ impl Counts {
     #[tactic(auto, unfolding(plain_machine::specs::Counts::steps_of, plain_machine::specs::Counts::records_of, crate::specs::Rescues::rescues_of))]
     fn add(&mut self, entry: &Entry) -> Result<(), MemoryWant>
         ensures steps { OnOk result (self.new.steps ≡ self.old.steps + steps_of entry.now) }
-        ensures records { OnOk result (self.new.records ≡ self.old.records + length (records_of entry.now)) }
+        ensures records { OnOk result
+            (self.new.records ≡ self.old.records + length (records_of entry.now)) }
         ensures rescues { OnOk result (self.new.rescues ≡ self.old.rescues + rescues_of entry.now) }
     {
         match entry {

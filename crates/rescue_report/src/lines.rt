@@ -23,7 +23,8 @@ pub(crate) fn rescue_line(
     inside: Counts,
 ) -> Result<String, MemoryWant>
     ensures ok { IfOk result
-        (λ text. string_bytes text ≡ rescue_line depth hart point fault inside.steps inside.records) }
+        (λ text. string_bytes text
+        ≡ rescue_line depth hart point fault inside.steps inside.records) }
 {
     let Counts { steps, records, .. } = inside;
     let entry = hexadecimal(alloc, point.entry)?;
