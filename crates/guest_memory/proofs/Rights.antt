@@ -1,5 +1,5 @@
 -- A byte with write has read, at the start and behind every change.
-use Rattle.std.proofs.Common.{◌≡◌, ℕ, zero, suc, ◌+◌, ◌-◌, ◌<◌, ◌≤◌, ◌&&◌, nat_le, nat_lt, Bool, true, false, cond, List, [], ◌∷◌, length, get_or, Option, Some, None, refl, sym, ap, ◌∙◌, subst, arith, ◌⊎◌, inl, inr, if◌then◌else◌, slice_index}
+use Rattle.std.proofs.Common.{◌≡◌, ℕ, suc, ◌+◌, ◌-◌, ◌&&◌, nat_le, nat_lt, Bool, true, false, cond, List, [], ◌∷◌, length, Option, Some, None, refl, sym, ap, ◌∙◌, subst, arith, inl, inr, if◌then◌else◌, slice_index}
 use Rattle.std.proofs.lemmas.Bool.Decides.{leb_tells}
 use Rattle.std.specs.List.{All, find}
 use Rattle.std.specs.FinMap.{get}
@@ -8,7 +8,7 @@ use Rattle.guest_words.specs.declared.image.Cell.{Cell}
 use Rattle.guest_words.specs.declared.image.Load.{Load}
 use Rattle.guest_words.specs.Image.{IsLoad}
 use Rattle.guest_words.specs.Space.{Space, has_right, with_bytes}
-use Rattle.guest_words.specs.Start.{is_in_pages, is_in_bytes, is_in_stack, loaded_cell, cell_at, memory_of}
+use Rattle.guest_words.specs.Start.{is_in_pages, is_in_stack, loaded_cell, memory_of}
 use Rattle.guest_words.proofs.StartMemory.{get-memory_of, get-memory_of_past}
 use Rattle.plain_memory.proofs.Blanks.{get-with_bytes, overwritten}
 use Rattle.guest_memory.specs.Kept.{WriteBringsRead}

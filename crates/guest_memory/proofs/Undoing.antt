@@ -1,7 +1,6 @@
 -- Notes of changes put back give the memory before them.
-use Rattle.std.proofs.Common.{◌≡◌, ℕ, zero, suc, ◌+◌, ◌-◌, ◌*◌, ◌/◌, ◌%◌, ◌<◌, ◌≤◌, ◌&&◌, nat_le, nat_lt, Bool, true, false, List, [], ◌∷◌, length, get_or, Option, Some, None, refl, sym, ap, ◌∙◌, arith, if◌then◌else◌, slice_index}
+use Rattle.std.proofs.Common.{◌≡◌, ℕ, zero, suc, ◌+◌, ◌-◌, ◌*◌, ◌/◌, ◌%◌, ◌<◌, ◌≤◌, ◌&&◌, nat_le, nat_lt, Bool, true, false, List, [], ◌∷◌, length, get_or, Option, Some, None, refl, ap, ◌∙◌, arith, if◌then◌else◌, slice_index}
 use Rattle.std.proofs.lemmas.Bool.Decides.{nat_tests}
-use Rattle.std.specs.Ordering.{nat_cmp}
 use Rattle.std.specs.Cmp.{nat_cmp_total}
 use Rattle.std.specs.FinMap.{get, same_map, nat_cmp-IsAntisymmetric}
 use Rattle.guest_words.specs.declared.image.Cell.{Cell}
@@ -55,12 +54,12 @@ pub put_back : (m : Space) (a w v : ℕ) → HasBytes m → with_number (with_nu
 put_back m a w v small =
     ap (with_bytes (with_number m a w v) a) (low_bytes-number m a w small)
     ∙ same_map nat_cmp_total nat_cmp-IsAntisymmetric _ _ (λ q.
-      get-with_bytes (with_number m a w v) a (bytes_at m a w) q
-      ∙ ap (λ n. overwritten (if nat_le a q && nat_lt q (a + n) then Some (slice_index (bytes_at m a w) (q - a)) else None) (get (with_number m a w v) q)) (length-bytes_at m a w)
-      ∙ ap (overwritten (if nat_le a q && nat_lt q (a + w) then Some (slice_index (bytes_at m a w) (q - a)) else None))
-        (get-with_bytes m a (low_bytes w v) q
-        ∙ ap (λ n. overwritten (if nat_le a q && nat_lt q (a + n) then Some (slice_index (low_bytes w v) (q - a)) else None) (get m q)) (length-low_bytes w v))
-      ∙ twice (nat_le a q && nat_lt q (a + w)) (get m q) (slice_index (bytes_at m a w) (q - a)) (slice_index (low_bytes w v) (q - a)) (stood q))
+    get-with_bytes (with_number m a w v) a (bytes_at m a w) q
+    ∙ ap (λ n. overwritten (if nat_le a q && nat_lt q (a + n) then Some (slice_index (bytes_at m a w) (q - a)) else None) (get (with_number m a w v) q)) (length-bytes_at m a w)
+    ∙ ap (overwritten (if nat_le a q && nat_lt q (a + w) then Some (slice_index (bytes_at m a w) (q - a)) else None))
+    (get-with_bytes m a (low_bytes w v) q
+    ∙ ap (λ n. overwritten (if nat_le a q && nat_lt q (a + n) then Some (slice_index (low_bytes w v) (q - a)) else None) (get m q)) (length-low_bytes w v))
+    ∙ twice (nat_le a q && nat_lt q (a + w)) (get m q) (slice_index (bytes_at m a w) (q - a)) (slice_index (low_bytes w v) (q - a)) (stood q))
   where
     stood : (q : ℕ) → (nat_le a q && nat_lt q (a + w)) ≡ true → get_or (bytes_at m a w) (q - a) 0 ≡ byte_of (get m q)
     stood q inside =

@@ -1,5 +1,5 @@
 -- A run of zeros put among others.
-use Rattle.std.proofs.Common.{◌≡◌, ◌≢◌, ℕ, zero, suc, ◌+◌, ◌-◌, ◌*◌, ◌/◌, ◌%◌, ◌<◌, ◌≤◌, ◌^◌, ◌&&◌, nat_le, nat_lt, Bool, true, false, cond, List, [], ◌∷◌, ◌++◌, length, get_or, take, drop, replicate, Option, Some, None, refl, sym, ap, ◌∙◌, subst, arith, ◌⊎◌, inl, inr, if◌then◌else◌}
+use Rattle.std.proofs.Common.{◌≡◌, ℕ, ◌+◌, ◌-◌, ◌*◌, ◌/◌, ◌%◌, ◌<◌, ◌≤◌, ◌^◌, ◌&&◌, nat_le, nat_lt, Bool, true, false, cond, List, ◌∷◌, length, get_or, take, drop, replicate, Option, Some, None, refl, sym, ap, ◌∙◌, subst, arith, ◌⊎◌, inl, inr, if◌then◌else◌}
 use Rattle.std.proofs.lemmas.Bool.Decides.{nat_tests, leb_tells, eqb_tells}
 use Rattle.std.proofs.lemmas.List.{get_or-replicate, length-replicate, take-append-drop}
 use Rattle.std.proofs.lemmas.List.Edits.{length-insert, get_or-insert_at, get_or-insert_below, get_or-insert_above}
@@ -7,9 +7,6 @@ use Rattle.std.proofs.lemmas.List.Folds.{find-append as list_find-append}
 use Rattle.std.specs.List.{find, insert}
 use Rattle.std.specs.Option.{option_or}
 use Rattle.std.specs.FinMap.{get}
-use Rattle.guest_words.specs.declared.image.Rights.{Rights}
-use Rattle.guest_words.specs.declared.image.Cell.{Cell}
-use Rattle.guest_words.specs.Space.{Space}
 use Rattle.plain_memory.specs.Blank.{zero_cell, zeros_in}
 use Rattle.guest_pages.specs.declared.run.Run.{Run}
 use Rattle.guest_pages.specs.Runs.{IsRun, end_of, holds, cell_in, cells_of, AreSorted, IsCountUpTo}

@@ -1,19 +1,15 @@
 -- Bytes put into a run are bytes put into the map.
-use Rattle.std.proofs.Common.{◌≡◌, ◌≢◌, ℕ, zero, suc, ◌+◌, ◌-◌, ◌*◌, ◌/◌, ◌%◌, ◌<◌, ◌≤◌, ◌&&◌, nat_le, nat_lt, Bool, true, false, cond, List, [], ◌∷◌, ◌++◌, length, get_or, set, take, drop, Option, Some, None, refl, sym, ap, ◌∙◌, subst, arith, ◌⊎◌, inl, inr, get_or-set_same, get_or-set_other, length-set, length-append, length-drop, if◌then◌else◌, slice_index}
-use Rattle.std.specs.List.{find, All, AllPairs}
-use Rattle.std.specs.Ordering.{nat_cmp}
+use Rattle.std.proofs.Common.{◌≡◌, ℕ, ◌+◌, ◌-◌, ◌%◌, ◌<◌, ◌≤◌, ◌&&◌, nat_le, nat_lt, Bool, true, false, List, ◌++◌, length, get_or, set, take, drop, Some, None, refl, sym, ap, ◌∙◌, arith, ◌⊎◌, inl, inr, get_or-set_same, get_or-set_other, length-set, length-append, length-drop, if◌then◌else◌, slice_index}
 use Rattle.std.specs.Cmp.{nat_cmp_total}
 use Rattle.std.specs.FinMap.{get, same_map, nat_cmp-IsAntisymmetric}
 use Rattle.std.proofs.lemmas.Bool.Decides.{nat_tests, leb_tells, eqb_tells}
 use Rattle.std.proofs.lemmas.List.{get_or_default, get_or-drop, get_or-take, get_or_append_left, get_or-append_right, length-take}
 use Rattle.std.proofs.lemmas.List.Folds.{find_past}
-use Rattle.guest_words.specs.declared.image.Rights.{Rights}
-use Rattle.guest_words.specs.declared.image.Cell.{Cell}
-use Rattle.guest_words.specs.Space.{Space, with_bytes}
+use Rattle.guest_words.specs.Space.{with_bytes}
 use Rattle.plain_memory.proofs.Blanks.{get-with_bytes, overwritten}
 use Rattle.guest_pages.specs.declared.run.Run.{Run}
 use Rattle.guest_pages.specs.Runs.{IsRun, end_of, holds, cell_in, cells_of, placed, AreSorted, IsPut}
-use Rattle.guest_pages.proofs.Lookup.{holds_yes, holds_no, find-holder, get-cells_of, get-holder}
+use Rattle.guest_pages.proofs.Lookup.{holds_no, get-cells_of, get-holder}
 
 -- bytes put among others keep their number
 pub length-placed : (bs : List ℕ) (at : ℕ) (new : List ℕ) → at + length new ≤ length bs → length (placed bs at new) ≡ length bs

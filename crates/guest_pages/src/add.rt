@@ -72,7 +72,8 @@ impl Pages {
         requires whole { end % PAGE ≡ 0 }
         requires less { at < end }
         ensures next { IfOk result (IsStep at end) }
-        ensures ok { IfOk result (λ next. Brings (zeros_in (at / PAGE) ((next - at) / PAGE) rights) self.old self.new) }
+        ensures ok { IfOk result (λ next.
+            Brings (zeros_in (at / PAGE) ((next - at) / PAGE) rights) self.old self.new) }
     {
         if let Some(stretch) = self.stretch_at(at) {
             return Ok(end.min(at + stretch.bytes.len() as u64));

@@ -1,4 +1,4 @@
-use Rattle.std.proofs.Common.{◌≡◌, ◌∙◌, ap, sym}
+use Rattle.std.proofs.Common.{◌∙◌, ap}
 use Rattle.std.specs.Ordering.{nat_cmp}
 use Rattle.std.specs.Option.{option_or}
 use Rattle.std.specs.FinMap.{get, get-empty}
@@ -11,7 +11,7 @@ returns c =
     let loads = c.args.loads.now in
     record {
       ok = c.fill_loads.ensures.value
-        ∙ memory_of-filled loads c.add_loads.new.pages c.requires.loads (λ a.
+          ∙ memory_of-filled loads c.add_loads.new.pages c.requires.loads (λ a.
           c.in_ok-add_loads.ensures.ok a
           ∙ ap (λ o. option_or o (blank_in loads a)) (c.in_ok-add_missing.ensures.ok a ∙ ap (λ o. option_or o (stack_in a)) (ap (λ m. get m a) c.new-pages.ensures.none ∙ get-empty nat_cmp a)));
     }

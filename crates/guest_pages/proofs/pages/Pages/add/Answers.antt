@@ -1,12 +1,11 @@
-use Rattle.std.proofs.Common.{◌≡◌, ◌∙◌, ap, sym, subst, arith, refl, ◌+◌, ◌*◌, ◌/◌, ◌%◌, ◌<◌, ◌^◌, List, length, replicate}
+use Rattle.std.proofs.Common.{◌∙◌, ap, sym, subst, refl, ◌*◌, ◌/◌, List, length}
 use Rattle.std.proofs.lemmas.List.{length-replicate}
-use Rattle.std.specs.List.{insert}
 use Rattle.std.specs.Option.{option_or}
 use Rattle.std.specs.FinMap.{get}
 use Rattle.guest_words.specs.Space.{Space}
 use Rattle.plain_memory.specs.Blank.{zeros_in}
 use Rattle.guest_pages.specs.declared.run.Run.{Run}
-use Rattle.guest_pages.specs.Runs.{IsRun, IsCountUpTo, AreSorted, cells_of, end_of}
+use Rattle.guest_pages.specs.Runs.{IsCountUpTo, AreSorted, cells_of}
 use Rattle.guest_pages.specs.Stretch.{IsFree}
 use Rattle.guest_pages.proofs.Adding.{run_of_zeros, sorted-insert, get-insert_zeros}
 use Rattle.guest_pages.proofs.pages.Pages.add.Goals as goal

@@ -1,4 +1,4 @@
-use Rattle.std.proofs.Common.{◌≡◌, ◌∙◌, ◌+◌, ◌-◌, ◌/◌, ap, sym}
+use Rattle.std.proofs.Common.{◌∙◌, ◌+◌, ◌-◌, ◌/◌, ap, sym}
 use Rattle.guest_words.specs.Space.{with_bytes, low_bytes}
 use Rattle.plain_memory.proofs.Bytewise.{stored-next, stored-done}
 use Rattle.guest_pages.proofs.pages.Pages.put_below.Goals as goal
