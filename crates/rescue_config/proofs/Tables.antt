@@ -49,8 +49,8 @@ IsTable-next symbols text values k points value next read =
 rules_from : (symbols : List Symbol) (text : List Span) (values : List Value) (k : ℕ) (points : List Point) (value : Value)
     → IsNext values k value
     → (let point = members_in (view value) in
-      points_rules symbols text points (items_view (drop k values))
-      ≡ point_rules symbols text points point ++ points_rules symbols text (points ++ point_of symbols point ∷ []) (items_view (drop (k + 1) values)))
+    points_rules symbols text points (items_view (drop k values))
+    ≡ point_rules symbols text points point ++ points_rules symbols text (points ++ point_of symbols point ∷ []) (items_view (drop (k + 1) values)))
 unfolding points_rules
 rules_from symbols text values k points value next = ap (points_rules symbols text points) next
 
@@ -72,15 +72,15 @@ AreRead-next symbols text values k points more value next read kept is distinct 
     let rest = items_view (drop (k + 1) values) in
     record {
       rules =
-        ap (λ ps. first_at_point (points_rules symbols text ps rest)) is
-        ∙ sym (kept_next (point_rules symbols text points point) (points_rules symbols text (points ++ point_of symbols point ∷ []) rest) kept)
-        ∙ sym (ap first_at_point (rules_from symbols text values k points value next))
-        ∙ read.rules;
+          ap (λ ps. first_at_point (points_rules symbols text ps rest)) is
+          ∙ sym (kept_next (point_rules symbols text points point) (points_rules symbols text (points ++ point_of symbols point ∷ []) rest) kept)
+          ∙ sym (ap first_at_point (rules_from symbols text values k points value next))
+          ∙ read.rules;
       list =
-        ap (λ ps. ps ++ points_in symbols rest) is
-        ∙ append_assoc points (point_of symbols point ∷ []) (points_in symbols rest)
-        ∙ sym (ap (λ ps. points ++ ps) (list_from symbols values k value next))
-        ∙ read.list;
+          ap (λ ps. ps ++ points_in symbols rest) is
+          ∙ append_assoc points (point_of symbols point ∷ []) (points_in symbols rest)
+          ∙ sym (ap (λ ps. points ++ ps) (list_from symbols values k value next))
+          ∙ read.list;
       tables = (and_parts _ (are_tables rest) (sym (ap are_tables next) ∙ read.tables)).1;
       count = ap length is ∙ length-append points (point_of symbols point ∷ []) ∙ ap (λ n. n + 1) read.count;
       distinct = distinct;

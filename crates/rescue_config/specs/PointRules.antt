@@ -21,7 +21,7 @@ target_rules number point =
     rule (is_none function && is_none entry) Missing number
     ∷ rule (is_some function && is_some entry) Both number
     ∷ rule (is_other (λ v. is_some (as_str v)) function
-        || is_other (λ v. is_some (address_in v)) entry) BadValue number
+    || is_other (λ v. is_some (address_in v)) entry) BadValue number
     ∷ []
 
 -- it says what a rescued call returns

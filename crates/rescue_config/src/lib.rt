@@ -9,6 +9,8 @@ mod point_fault;
 mod points_fault;
 mod reader;
 mod target;
+#[cfg(test)]
+mod tests;
 mod values;
 
 pub use point_fault::PointFault;
