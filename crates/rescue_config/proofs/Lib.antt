@@ -1,0 +1,4 @@
+pub mod Reading
+pub mod RuleLists
+pub mod Tables
+pub mod Results

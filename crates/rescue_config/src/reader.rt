@@ -1,0 +1,92 @@
+ghost use Rattle.std.specs.Prelude.{◌≡◌, ◌≤◌, ◌<◌, ℕ, true, [], ◌∷◌, ◌++◌, length, Option, Ok, Err, IfOk, OnOk, IsSome, IsErrOf};
+ghost use Rattle.guest_words.specs.Points.{IsPointList};
+ghost use Rattle.toml.specs.Data.{as_table};
+ghost use Rattle.toml.specs.View.{view, items_view, table_view};
+ghost use Rattle.rescue_config.specs.declared.point_fault.PointFault.{PointFault};
+ghost use Rattle.rescue_config.specs.Document.{first_at_point, points_rules, points_in, members_in, points_of};
+ghost use Rattle.rescue_config.specs.Fields.{are_tables};
+ghost use Rattle.rescue_config.specs.PointRules.{point_rules, point_of};
+ghost use Rattle.rescue_config.specs.Tells.{Tells};
+
+use crate::document::{check_file, parse};
+use crate::point::read_point;
+use crate::points_fault::PointsFault;
+use elf_symbols::Symbols;
+use guest_words::{Point, Points, Span};
+use std::alloc::Global;
+use toml::{Table, Value};
+
+/// The table that the value is.
+fn table_of(value: &Value) -> &Table
+    requires { IsSome (as_table (view value.now)) }
+    ensures { table_view result.now ≡ members_in (view value.now) }
+{
+    value.as_table().unwrap()
+}
+
+/// Adds the point of the next table.
+fn add_point(
+    points: &mut Vec<Point>,
+    value: &Value,
+    symbols: &Symbols,
+    text: &[Span],
+) -> Result<(), PointsFault>
+    requires table { IsSome (as_table (view value.now)) }
+    requires room { length points.old.items < 256 }
+    requires list { IsPointList points.old.items }
+    ensures rules { Tells result (first_at_point
+        (point_rules symbols.now text.now points.old.items (members_in (view value.now)))) }
+    ensures ok { OnOk result (points.new.items
+        ≡ points.old.items ++ point_of symbols.now (members_in (view value.now)) ∷ []) }
+    ensures list { OnOk result (IsPointList points.new.items) }
+{
+    let point = read_point(table_of(value), symbols, text, points.as_slice())?;
+    match points.push(point) {
+        Ok(()) => Ok(()),
+        Err(_) => Err(PointsFault::Memory),
+    }
+}
+
+/// The points of the tables, in order.
+fn read_tables(
+    alloc: Global,
+    values: &[Value],
+    symbols: &Symbols,
+    text: &[Span],
+) -> Result<Points, PointsFault>
+    requires tables { are_tables (items_view values.now) ≡ true }
+    requires few { length values.now ≤ 256 }
+    ensures rules { Tells result (first_at_point
+        (points_rules symbols.now text.now [] (items_view values.now))) }
+    ensures list { IfOk result (λ points.
+        points ≡ points_in symbols.now (items_view values.now)) }
+{
+    let mut points = Vec::with_capacity(alloc, values.len())?;
+    for value in values {
+        add_point(&mut points, value, symbols, text)?;
+    }
+    Ok(Points::of(points))
+}
+
+/// The points of a rescue file of version 1, in its order, with the symbols of the program and its
+/// executable loads, or the first rule that the file breaks, with the point's number. The format is
+/// TOML 1.1: the key `version`, and tables `point` with the keys `function` or `entry`, `returns`
+/// and `kind`. See [`PointFault`](crate::PointFault) for the rules. All rules of one point are tried
+/// before the next point; points that are off are checked as all others.
+pub fn read_points(
+    alloc: Global,
+    bytes: &[u8],
+    symbols: &Symbols,
+    text: &[Span],
+) -> Result<Points, PointsFault>
+    ensures ok { IfOk result (λ points. points_of bytes.now symbols.now text.now ≡ Ok points) }
+
+    // A rule is named only where it is the first one that is broken, with its place.
+    ensures cause { (fault : PointFault) (place : Option ℕ)
+        → IsErrOf result (PointsFault.Points fault place)
+        → points_of bytes.now symbols.now text.now ≡ Err (fault, place) }
+{
+    let file = parse(alloc, bytes)?;
+    let values = check_file(&file)?;
+    read_tables(alloc, values, symbols, text)
+}

@@ -1,0 +1,191 @@
+use crate::{PointFault, PointsFault, read_points};
+use elf_symbols::{Symbol, Symbols};
+use guest_words::{Kind, Name, Point, Points, Ret, Span};
+use std::alloc::{AllocError, Global};
+use std::test::Fail;
+
+/// A function named f at the start of the text, one more of this name, and one named handle.
+fn symbols(alloc: Global) -> Result<Symbols, AllocError> {
+    let mut items = Vec::new(alloc);
+    for (value, name) in [(0x10000, "f"), (0x10004, "f"), (0x100b0, "handle")] {
+        items.push(Symbol {
+            value,
+            size: 4,
+            name: Name::of(String::from_str(alloc, name)?),
+        })?;
+    }
+    Ok(Symbols::of(items))
+}
+
+/// What the rescue file says of a program whose one executable load has 256 bytes at 0x10000.
+fn read(alloc: Global, file: &[u8]) -> Result<Result<Points, PointsFault>, AllocError> {
+    let text = [Span {
+        from: 0x10000,
+        size: 256,
+    }];
+    Ok(read_points(alloc, file, &symbols(alloc)?, &text))
+}
+
+/// The number of points of a rescue file that keeps the rules.
+fn count(alloc: Global, file: &[u8]) -> Result<usize, Fail> {
+    Ok(read(alloc, file)??.items().len())
+}
+
+/// A rescue file, the first rule that it breaks, and the number of the point that breaks it.
+type Case = (&'static str, PointFault, Option<u32>);
+
+/// Each rule once or more, in order.
+const RULES: [Case; 21] = [
+    ("point = ", PointFault::Toml, None),
+    ("size = 1", PointFault::UnknownKey, None),
+    ("version = 2", PointFault::BadVersion, None),
+    ("version = true", PointFault::BadVersion, None),
+    ("point = 1", PointFault::BadValue, None),
+    ("point = [{}, 1]", PointFault::BadValue, None),
+    ("point = {}", PointFault::BadValue, None),
+    ("[[point]]\nsize = 1", PointFault::UnknownKey, Some(0)),
+    ("[[point]]\nreturns = 0", PointFault::Missing, Some(0)),
+    (
+        "[[point]]\nfunction = 'handle'\nentry = 65712\nreturns = 0",
+        PointFault::Both,
+        Some(0),
+    ),
+    ("[[point]]\nfunction = 1", PointFault::BadValue, Some(0)),
+    ("[[point]]\nentry = -4", PointFault::BadValue, Some(0)),
+    ("[[point]]\nentry = 65536", PointFault::Missing, Some(0)),
+    (
+        "[[point]]\nentry = 65536\nreturns = 'x'",
+        PointFault::BadReturn,
+        Some(0),
+    ),
+    (
+        "[[point]]\nentry = 65536\nreturns = 0\nkind = 'on'",
+        PointFault::BadKind,
+        Some(0),
+    ),
+    (
+        "[[point]]\nfunction = 'g'\nreturns = 0",
+        PointFault::UnknownFunction,
+        Some(0),
+    ),
+    (
+        "[[point]]\nfunction = 'f'\nreturns = 0",
+        PointFault::Ambiguous { count: 2 },
+        Some(0),
+    ),
+    (
+        "[[point]]\nentry = 65538\nreturns = 0\nkind = 'off'",
+        PointFault::Misaligned,
+        Some(0),
+    ),
+    (
+        "[[point]]\nentry = 65792\nreturns = 'void'",
+        PointFault::OutsideText,
+        Some(0),
+    ),
+    (
+        "[[point]]\nentry = 65536\nreturns = 0\n[[point]]\nentry = 65536\nreturns = 1",
+        PointFault::Twice { first: 0 },
+        Some(1),
+    ),
+    (
+        "[[point]]\nentry = 65536\nreturns = 0\n[[point]]\nreturns = 1",
+        PointFault::Missing,
+        Some(1),
+    ),
+];
+
+/// Two rules are broken: in one point, and in two points.
+const ORDERS: [Case; 2] = [
+    (
+        "[[point]]\nentry = 65538\nreturns = 'x'\nkind = 'on'",
+        PointFault::BadReturn,
+        Some(0),
+    ),
+    (
+        "[[point]]\nentry = 65538\nreturns = 0\n[[point]]\nsize = 1",
+        PointFault::Misaligned,
+        Some(0),
+    ),
+];
+
+#[test]
+fn bytes_that_are_no_text(rt: HostRuntime) -> Result<(), Fail> {
+    let answer = read(rt.alloc(), b"\xff\xfe")?.err();
+    let fault = PointFault::Toml;
+    assert_eq!(rt; answer, Some(PointsFault::Points { fault, place: None }));
+    Ok(())
+}
+
+#[test]
+fn rescue_files(rt: HostRuntime) -> Result<(), Fail> {
+    for (file, fault, place) in RULES {
+        let answer = read(rt.alloc(), file.as_bytes())?.err();
+        assert_eq!(rt;
+            answer,
+            Some(PointsFault::Points { fault, place }),
+            "{file}"
+        );
+    }
+    Ok(())
+}
+
+#[test]
+fn first_of_two_broken_rules(rt: HostRuntime) -> Result<(), Fail> {
+    for (file, fault, place) in ORDERS {
+        let answer = read(rt.alloc(), file.as_bytes())?.err();
+        assert_eq!(rt;
+            answer,
+            Some(PointsFault::Points { fault, place }),
+            "{file}"
+        );
+    }
+    Ok(())
+}
+
+#[test]
+fn many_points(rt: HostRuntime) -> Result<(), Fail> {
+    let mut file = String::from_str(rt.alloc(), "point = [")?;
+    for _ in 0..257 {
+        file.push_str("{},")?;
+    }
+    file.push_str("]")?;
+    let answer = read(rt.alloc(), file.as_str().as_bytes())?.err();
+    let fault = PointFault::TooMany { count: 257 };
+    assert_eq!(rt; answer, Some(PointsFault::Points { fault, place: None }));
+    Ok(())
+}
+
+#[test]
+fn no_points(rt: HostRuntime) -> Result<(), Fail> {
+    assert_eq!(rt; count(rt.alloc(), b"")?, 0);
+    assert_eq!(rt; count(rt.alloc(), b"version = 1\npoint = []")?, 0);
+    Ok(())
+}
+
+const EXAMPLE: &str = "version = 1
+[[point]]
+function = \"handle\"
+returns = -1
+kind = \"blocking\"
+";
+
+#[test]
+fn point_of_a_function(rt: HostRuntime) -> Result<(), Fail> {
+    let points = read(rt.alloc(), EXAMPLE.as_bytes())??;
+    let want = Point {
+        entry: 0x100b0,
+        ret: Ret::Code(u64::MAX),
+        kind: Kind::Blocking,
+    };
+    assert!(rt; points.items() == [want].as_slice());
+    Ok(())
+}
+
+#[test]
+fn printed_refusal(rt: HostRuntime) -> Result<(), Fail> {
+    let fault = read(rt.alloc(), b"[[point]]")?.err().ok_or("refused")?;
+    let text = format!(in rt.alloc(); "{fault}")?;
+    assert!(rt; text.as_str() == "points missing");
+    Ok(())
+}
