@@ -9,7 +9,7 @@ use Rattle.toml.specs.Data.{Items, Members}
 use Rattle.rescue_config.specs.declared.point_fault.PointFault.{PointFault}
 use Rattle.rescue_config.specs.declared.points_fault.PointsFault.{PointsFault}
 use Rattle.rescue_config.specs.declared.points_fault.PointsFault.TheVariants.{Points}
-use Rattle.rescue_config.specs.Document.{document_of, point_items, file_rules, points_rules, points_in, first_at_file, first_at_point, first_broken_in, points_or, points_of_document, points_of}
+use Rattle.rescue_config.specs.Document.{document_of, point_items, file_rules, points_rules, points_in, first_at_file, first_at_point, points_or, points_of_document, points_of}
 use Rattle.rescue_config.specs.Tells.{IsCause, Tells, unparsed}
 
 -- what a refusal tells of the first broken rule

@@ -1,5 +1,5 @@
 -- The first fault of a list of rules, part by part.
-use Rattle.std.proofs.Common.{◌≡◌, ◌≢◌, ℕ, ◌<◌, ◌≤◌, ◌==◌, List, [], ◌∷◌, ◌++◌, true, false, not, length, get_or, refl, sym, ap, subst, ◌∙◌, arith, lit<}
+use Rattle.std.proofs.Common.{◌≡◌, ◌≢◌, ℕ, ◌<◌, ◌≤◌, ◌==◌, List, ◌++◌, true, false, not, length, get_or, refl, sym, ap, subst, ◌∙◌, arith, lit<}
 use Rattle.std.specs.Prelude.{Option, Some, None, option_map, is_some, position}
 use Rattle.std.specs.List.{position_or_len}
 use Rattle.std.proofs.lemmas.Bool.Decides.{nat_tests}
@@ -16,9 +16,9 @@ use Rattle.elf_symbols.specs.declared.symbol.Symbol.{Symbol}
 use Rattle.toml.specs.Data.{Members}
 use Rattle.rescue_config.specs.Document.{at_point, first_at_point}
 use Rattle.rescue_config.specs.PointRules.{field_rules, name_rules, entry_rules, point_rules, named, entry_in, entry_of, point_of}
-use Rattle.rescue_config.specs.Fields.{function_of, address_of}
+use Rattle.rescue_config.specs.Fields.{function_of}
 use Rattle.rescue_config.specs.declared.target.Target.{Target}
-use Rattle.rescue_config.specs.Targets.{IsTarget, function_in, address_in}
+use Rattle.rescue_config.specs.ReadFields.{IsTarget, target_function, target_address}
 use Rattle.rescue_config.specs.Tells.{IsCause}
 
 -- no place is told exactly where no rule is broken
@@ -85,7 +85,7 @@ entry_left symbols text earlier point function entry same is fields name =
     ∙ ap (λ e. first_at_point (entry_rules number text earlier e)) (sym is)
 
 -- the entry of a point from what was read of it
-pub entry_is : (symbols : List Symbol) (point : Members) (target : Target) → IsTarget point target → entry_in (named symbols (function_in target)) (address_in target) ≡ entry_of symbols point
+pub entry_is : (symbols : List Symbol) (point : Members) (target : Target) → IsTarget point target → entry_in (named symbols (target_function target)) (target_address target) ≡ entry_of symbols point
 entry_is symbols point target is = λ i. entry_in (named symbols (sym is.function i)) (sym is.address i)
 
 -- no element passes where there is no first place

@@ -1,5 +1,5 @@
 -- The rules on a rescue file in their order, and the list of its points or the first broken rule.
-use Rattle.std.specs.Prelude.{ℕ, nat_lt, Bool, not, List, [], ◌∷◌, ◌++◌, suc, zero, Option, Some, None, option_map, option_and_then, unwrap_or, Result, Ok, Err, codes, if◌then◌else◌}
+use Rattle.std.specs.Prelude.{ℕ, nat_lt, not, List, [], ◌∷◌, ◌++◌, suc, Option, Some, None, option_map, option_and_then, unwrap_or, Result, Ok, Err, codes, if◌then◌else◌}
 use Rattle.std.specs.Option.{option_or}
 use Rattle.std.specs.Str.{is_utf8}
 use Rattle.guest_words.specs.declared.image.Span.{Span}
@@ -40,7 +40,8 @@ file_rules file =
     ∷ []
 
 -- the rules on the points: all those of one point come before the next
-unfoldable pub points_rules : List Symbol → List Span → List Point → Items → List (Rule PointFault)
+unfoldable pub points_rules :
+    List Symbol → List Span → List Point → Items → List (Rule PointFault)
 points_rules symbols text earlier no_items = []
 points_rules symbols text earlier (item value rest) =
     let point = members_in value in
@@ -53,35 +54,39 @@ points_in symbols no_items = []
 points_in symbols (item value rest) = point_of symbols (members_in value) ∷ points_in symbols rest
 
 -- a broken rule with its place: none for a rule on the file, else the point's number
-abbrev pub at_file : PointFault × ℕ → PointFault × Option ℕ
+abbrev pub Broken : Type 0
+Broken = PointFault × Option ℕ
+
+abbrev pub at_file : PointFault × ℕ → Broken
 at_file broken = (broken.0, None)
 
-abbrev pub at_point : PointFault × ℕ → PointFault × Option ℕ
+abbrev pub at_point : PointFault × ℕ → Broken
 at_point broken = (broken.0, Some broken.1)
 
 -- the first broken rule of a list with its place
-abbrev pub first_at_file : List (Rule PointFault) → Option (PointFault × Option ℕ)
+abbrev pub first_at_file : List (Rule PointFault) → Option Broken
 first_at_file rules = option_map at_file (first_broken rules)
 
-abbrev pub first_at_point : List (Rule PointFault) → Option (PointFault × Option ℕ)
+abbrev pub first_at_point : List (Rule PointFault) → Option Broken
 first_at_point rules = option_map at_point (first_broken rules)
 
 -- the first rule that a file breaks, with its place
-abbrev pub first_broken_in : List Symbol → List Span → Members → Option (PointFault × Option ℕ)
+abbrev pub first_broken_in : List Symbol → List Span → Members → Option Broken
 first_broken_in symbols text file =
     option_or (first_at_file (file_rules file))
     (first_at_point (points_rules symbols text [] (point_items file)))
 
 -- the points of a file, or the first rule that it breaks
-abbrev pub points_or : List Point → Option (PointFault × Option ℕ) → Result (List Point) (PointFault × Option ℕ)
+abbrev pub points_or : List Point → Option Broken → Result (List Point) Broken
 points_or points None = Ok points
 points_or points (Some broken) = Err broken
 
-abbrev pub points_of_document : List Symbol → List Span → Option Members → Result (List Point) (PointFault × Option ℕ)
+abbrev pub points_of_document :
+    List Symbol → List Span → Option Members → Result (List Point) Broken
 points_of_document symbols text None = Err (Toml, None)
 points_of_document symbols text (Some file) =
     points_or (points_in symbols (point_items file)) (first_broken_in symbols text file)
 
 -- the point list of the bytes, the symbols and the executable loads, or the first broken rule
-unfoldable pub points_of : List ℕ → List Symbol → List Span → Result (List Point) (PointFault × Option ℕ)
+unfoldable pub points_of : List ℕ → List Symbol → List Span → Result (List Point) Broken
 points_of bytes symbols text = points_of_document symbols text (document_of bytes)

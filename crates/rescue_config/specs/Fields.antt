@@ -1,6 +1,6 @@
 -- The keys of a rescue file's tables, and what their values are read as. `Data`, `Items` and
 -- `Members` are what the TOML reader sees a value, an array and a table as.
-use Rattle.std.specs.Prelude.{ℕ, Bool, true, false, not, ◌&&◌, ◌||◌, ℤ, pos, negsuc, ◌==◌, List, Option, Some, None, is_some, is_none, unwrap_or, option_and_then, codes, bytes_eq, if◌then◌else◌}
+use Rattle.std.specs.Prelude.{ℕ, Bool, true, false, not, ◌&&◌, ◌||◌, pos, ◌==◌, List, Option, Some, None, is_some, unwrap_or, option_and_then, codes, bytes_eq, if◌then◌else◌}
 use Rattle.guest_words.specs.declared.point.Ret.{Ret}
 use Rattle.guest_words.specs.declared.point.Ret.TheVariants.{Code, Void}
 use Rattle.guest_words.specs.declared.point.Kind.{Kind}

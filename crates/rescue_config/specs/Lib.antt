@@ -2,5 +2,5 @@ pub mod Document
 pub mod Fields
 pub mod PointFault
 pub mod PointRules
-pub mod Targets
+pub mod ReadFields
 pub mod Tells

@@ -1,5 +1,5 @@
 -- The rules on one point of a rescue file in their order, and the point that keeps them all.
-use Rattle.std.specs.Prelude.{ℕ, ◌+◌, ◌%◌, ◌==◌, nat_lt, nat_le, Bool, true, not, ◌&&◌, ◌||◌, List, [], ◌∷◌, ◌++◌, length, Option, Some, None, is_some, is_none, unwrap_or, option_map, position, codes}
+use Rattle.std.specs.Prelude.{ℕ, ◌+◌, ◌%◌, ◌==◌, nat_lt, nat_le, Bool, true, not, ◌&&◌, ◌||◌, List, [], ◌∷◌, ◌++◌, length, Option, Some, is_some, is_none, unwrap_or, option_map, position, codes}
 use Rattle.std.specs.List.{list_any}
 use Rattle.guest_words.specs.declared.image.Span.{Span}
 use Rattle.guest_words.specs.declared.point.Point.{Point}
@@ -53,7 +53,7 @@ name_rules number (Some Absent) = rule true UnknownFunction number ∷ []
 name_rules number (Some (Several count)) = rule true (Ambiguous count) number ∷ []
 name_rules number _ = []
 
--- the entry of a point that keeps these rules: the value of the symbol, or the address that is given
+-- the entry of a point that keeps these rules: the value of the symbol, or the given address
 abbrev pub entry_in : Option Found → Option ℕ → ℕ
 entry_in (Some (One value)) address = value
 entry_in _ address = unwrap_or address 0

@@ -3,7 +3,7 @@ ghost use Rattle.toml.specs.View.{table_view};
 ghost use Rattle.rescue_config.specs.Document.{first_at_point};
 ghost use Rattle.rescue_config.specs.Fields.{ret_of, kind_of};
 ghost use Rattle.rescue_config.specs.PointRules.{ret_rules, kind_rules, field_rules};
-ghost use Rattle.rescue_config.specs.Targets.{AreFields};
+ghost use Rattle.rescue_config.specs.ReadFields.{AreFields};
 ghost use Rattle.rescue_config.specs.Tells.{Tells};
 
 use crate::member::{has_only_point_keys, member};

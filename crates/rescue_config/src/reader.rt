@@ -68,11 +68,15 @@ fn read_tables(
     Ok(Points::of(points))
 }
 
-/// The points of a rescue file of version 1, in its order, with the symbols of the program and its
-/// executable loads, or the first rule that the file breaks, with the point's number. The format is
-/// TOML 1.1: the key `version`, and tables `point` with the keys `function` or `entry`, `returns`
-/// and `kind`. See [`PointFault`](crate::PointFault) for the rules. All rules of one point are tried
-/// before the next point; points that are off are checked as all others.
+/// The points of a rescue file, in its order, or the first rule that it breaks, with the number of
+/// the point that breaks it, counted from 0.
+///
+/// A rescue file is a TOML document in UTF-8. Its key `version` is 1, and may be absent. Its tables
+/// `point` have the keys `function`, the name of one of the symbols, or `entry`, a guest address;
+/// `returns`, an integer modulo 2 ^ 64 or the text `void`; and `kind`, `blocking` or `off`, and
+/// blocking where it is absent. `text` are the ranges of the executable loads. The rules are those
+/// of [`PointFault`](crate::PointFault): first those on the whole file, then those on each point in
+/// order. Points that are off are checked as all others.
 pub fn read_points(
     alloc: Global,
     bytes: &[u8],

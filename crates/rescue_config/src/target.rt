@@ -2,7 +2,7 @@ ghost use Rattle.std.specs.Prelude.{◌≡◌, IfOk};
 ghost use Rattle.toml.specs.View.{table_view};
 ghost use Rattle.rescue_config.specs.Document.{first_at_point};
 ghost use Rattle.rescue_config.specs.PointRules.{target_rules, name_rules, named, entry_in};
-ghost use Rattle.rescue_config.specs.Targets.{IsTarget, function_in, address_in};
+ghost use Rattle.rescue_config.specs.ReadFields.{IsTarget, target_function, target_address};
 ghost use Rattle.rescue_config.specs.Tells.{Tells};
 
 use crate::member::member;
@@ -44,9 +44,10 @@ impl Target<'_> {
     /// The entry of the point with this number, which goes by this target.
     pub fn entry(&self, symbols: &Symbols, number: u32) -> Result<u64, PointsFault>
         ensures rules { Tells result
-            (first_at_point (name_rules number (named symbols.now (function_in self.now)))) }
+            (first_at_point (name_rules number (named symbols.now (target_function self.now)))) }
         ensures entry { IfOk result (λ entry.
-            entry ≡ entry_in (named symbols.now (function_in self.now)) (address_in self.now)) }
+            entry ≡ entry_in (named symbols.now (target_function self.now))
+            (target_address self.now)) }
     {
         let fault = match self {
             Target::Entry(address) => return Ok(*address),

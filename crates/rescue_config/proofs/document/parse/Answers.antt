@@ -1,7 +1,5 @@
-use Rattle.std.proofs.Common.{◌≡◌, Some, None, refl, sym, ap, subst, ◌∙◌}
+use Rattle.std.proofs.Common.{refl, sym, ap, ◌∙◌}
 use Rattle.toml.specs.Parse.{parse_document}
-use Rattle.toml.specs.View.{table_view}
-use Rattle.rescue_config.specs.Document.{document_of}
 use Rattle.rescue_config.specs.Tells.{unparsed}
 use Rattle.rescue_config.proofs.Reading.{document_of-text, document_of-other}
 use Rattle.rescue_config.proofs.document.parse.Goals as goal

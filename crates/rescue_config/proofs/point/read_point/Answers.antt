@@ -2,7 +2,7 @@ use Rattle.std.proofs.Common.{ℕ, Option, rules, sym, subst, ◌∙◌}
 use Rattle.rescue_config.specs.declared.point_fault.PointFault.{PointFault}
 use Rattle.rescue_config.specs.Tells.{IsCause}
 use Rattle.toml.specs.View.{table_view}
-use Rattle.rescue_config.specs.Targets.{function_in}
+use Rattle.rescue_config.specs.ReadFields.{target_function}
 use Rattle.rescue_config.proofs.RuleLists.{fields_broken, name_broken, entry_left, entry_is}
 use Rattle.rescue_config.proofs.point.read_point.Goals as goal
 
@@ -16,7 +16,7 @@ pub returns-in_err-entry-clause-rules : goal.returns-in_err-entry-clause-rules
 returns-in_err-entry-clause-rules c =
     let point = table_view c.args.table.now in
     let target = c.in_ok-fields.fields.target in
-    let cause = name_broken c.args.symbols.now c.args.text.now c.args.earlier.now point (function_in target) c.in_err-entry.field-0.0 c.in_ok-fields.ensures.fields.target.function c.in_ok-fields.ensures.rules c.in_err-entry.ensures.rules in
+    let cause = name_broken c.args.symbols.now c.args.text.now c.args.earlier.now point (target_function target) c.in_err-entry.field-0.0 c.in_ok-fields.ensures.fields.target.function c.in_ok-fields.ensures.rules c.in_err-entry.ensures.rules in
     search (rules, cause)
 
 pub returns-in_err-check_entry-clause-rules : goal.returns-in_err-check_entry-clause-rules
@@ -25,7 +25,7 @@ returns-in_err-check_entry-clause-rules c =
     let point = table_view c.args.table.now in
     let target = c.in_ok-fields.fields.target in
     let entry = c.in_ok-entry.ensures.entry ∙ entry_is c.args.symbols.now point target c.in_ok-fields.ensures.fields.target in
-    let left = entry_left c.args.symbols.now c.args.text.now c.args.earlier.now point (function_in target) c.in_ok-entry.entry c.in_ok-fields.ensures.fields.target.function entry c.in_ok-fields.ensures.rules c.in_ok-entry.ensures.rules in
+    let left = entry_left c.args.symbols.now c.args.text.now c.args.earlier.now point (target_function target) c.in_ok-entry.entry c.in_ok-fields.ensures.fields.target.function entry c.in_ok-fields.ensures.rules c.in_ok-entry.ensures.rules in
     let P : Option (PointFault × Option ℕ) → Type 0 = λ broken. IsCause fault broken in
     let cause = subst P (sym left) c.in_err-check_entry.ensures.rules in
     search (rules, cause)
@@ -35,5 +35,5 @@ returns-clause-rules c =
     let point = table_view c.args.table.now in
     let target = c.in_ok-fields.fields.target in
     let entry = c.in_ok-entry.ensures.entry ∙ entry_is c.args.symbols.now point target c.in_ok-fields.ensures.fields.target in
-    entry_left c.args.symbols.now c.args.text.now c.args.earlier.now point (function_in target) c.in_ok-entry.entry c.in_ok-fields.ensures.fields.target.function entry c.in_ok-fields.ensures.rules c.in_ok-entry.ensures.rules
+    entry_left c.args.symbols.now c.args.text.now c.args.earlier.now point (target_function target) c.in_ok-entry.entry c.in_ok-fields.ensures.fields.target.function entry c.in_ok-fields.ensures.rules c.in_ok-entry.ensures.rules
     ∙ c.in_ok-check_entry.ensures.rules

@@ -1,5 +1,4 @@
 use Rattle.std.proofs.Common.{◌++◌, ◌∷◌, [], sym, ap, subst, ◌∙◌}
-use Rattle.guest_words.specs.declared.point.Point.{Point}
 use Rattle.guest_words.specs.Points.{IsPointList}
 use Rattle.guest_words.proofs.PointLists.{IsPointList-append}
 use Rattle.toml.specs.View.{table_view}

@@ -1,4 +1,4 @@
-use Rattle.std.proofs.Common.{rules, [], ◌∙◌}
+use Rattle.std.proofs.Common.{rules, []}
 use Rattle.std.specs.Prelude.{Some}
 use Rattle.toml.specs.View.{items_view, table_view}
 use Rattle.rescue_config.specs.Document.{document_of, file_rules, points_rules, first_at_file, first_at_point}

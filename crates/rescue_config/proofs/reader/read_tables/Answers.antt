@@ -1,4 +1,4 @@
-use Rattle.std.proofs.Common.{◌≡◌, List, rules, sym, subst, ◌∙◌, arith}
+use Rattle.std.proofs.Common.{List, rules, sym, subst, ◌∙◌, arith}
 use Rattle.guest_words.specs.declared.point.Point.{Point}
 use Rattle.rescue_config.proofs.Tables.{AreRead, IsNext-get_or, AreRead-none, IsTable-next, AreRead-next, AreRead-broken, AreRead-all}
 use Rattle.rescue_config.proofs.reader.read_tables.Goals as goal

@@ -6,18 +6,18 @@ use Rattle.rescue_config.specs.declared.target.Target.TheVariants.{Function, Ent
 use Rattle.rescue_config.specs.declared.fields.Fields.{Fields}
 use Rattle.rescue_config.specs.Fields.{function_of, address_of, ret_of, kind_of}
 
-abbrev pub function_in : Target → Option (List ℕ)
-function_in (Function name) = Some name.now
-function_in (Entry address) = None
+abbrev pub target_function : Target → Option (List ℕ)
+target_function (Function name) = Some name.now
+target_function (Entry address) = None
 
-abbrev pub address_in : Target → Option ℕ
-address_in (Function name) = None
-address_in (Entry address) = Some address
+abbrev pub target_address : Target → Option ℕ
+target_address (Function name) = None
+target_address (Entry address) = Some address
 
 -- a target is what the table of a point says
 pub record IsTarget (point : Members) (target : Target) : Type 0 where
-  pub function : function_of point ≡ function_in target
-  pub address : address_of point ≡ address_in target
+  pub function : function_of point ≡ target_function target
+  pub address : address_of point ≡ target_address target
 
 -- the fields are what the table of a point says
 pub record AreFields (point : Members) (fields : Fields) : Type 0 where
