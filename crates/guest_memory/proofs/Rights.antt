@@ -10,7 +10,7 @@ use Rattle.guest_words.specs.Image.{IsLoad}
 use Rattle.guest_words.specs.Space.{Space, has_right, with_bytes}
 use Rattle.guest_words.specs.Start.{is_in_pages, is_in_stack, loaded_cell, memory_of}
 use Rattle.guest_words.proofs.StartMemory.{get-memory_of, get-memory_of_past}
-use Rattle.plain_memory.proofs.Blanks.{get-with_bytes, overwritten}
+use Rattle.guest_words.proofs.Blanks.{get-with_bytes, overwritten}
 use Rattle.guest_memory.specs.Kept.{WriteBringsRead}
 
 -- a byte put over another has its rights

@@ -1,3 +1,6 @@
+pub mod Blanks
+pub mod Bytewise
+pub mod CellRuns
 pub mod ClosingShown
 pub mod EffectsShown
 pub mod FaultsShown

@@ -1,7 +1,9 @@
 pub mod Act
 pub mod Arithmetic
+pub mod Blank
 pub mod CallChanges
 pub mod Calls
+pub mod Cells
 pub mod Effects
 pub mod ElfFault
 pub mod ElfFields

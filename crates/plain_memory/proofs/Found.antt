@@ -11,45 +11,10 @@ use Rattle.std.specs.Map.{lookup}
 use Rattle.guest_words.specs.declared.image.Rights.{Rights}
 use Rattle.guest_words.specs.declared.image.Cell.{Cell}
 use Rattle.plain_memory.specs.declared.page.Page.{Page}
-use Rattle.plain_memory.specs.Pages.{run_of, runs_of, cells_of, AreWhole}
-
-abbrev pub or_else : {X : Type 0} → Option X → Option X → Option X
-or_else (Some x) y = Some x
-or_else None y = y
-
--- the test at a key, told apart
-pub tied_tells : (x y : ℕ) → ((eq_by_cmp nat_cmp x y ≡ true) × (x ≡ y)) ⊎ ((eq_by_cmp nat_cmp x y ≡ false) × (x ≢ y))
-tied_tells x y = elim (eqb_tells x y) [ inl p ↦ inl (unsigned_tied x y ∙ p.0, p.1) | inr p ↦ inr (unsigned_tied x y ∙ p.0, p.1) ]
-
-or_else_cond : {X : Type 0} (b : Bool) (x : X) (y z : Option X) → cond b (Some x) (or_else y z) ≡ or_else (cond b (Some x) y) z
-or_else_cond true x y z = refl
-or_else_cond false x y z = refl
-
-pub find-append : (es fs : List (ℕ × Cell)) (q : ℕ) → find nat_cmp q (es ++ fs) ≡ or_else (find nat_cmp q es) (find nat_cmp q fs)
-find-append [] fs q = refl
-find-append (e ∷ es) fs q = ap (cond (eq_by_cmp nat_cmp q e.0) (Some e.1)) (find-append es fs q) ∙ or_else_cond (eq_by_cmp nat_cmp q e.0) e.1 _ _
-
-pub find-run_inside : (at : ℕ) (r : Rights) (bs : List ℕ) (q i : ℕ) → q ≡ at + i → i < length bs → find nat_cmp q (run_of at r bs) ≡ Some (record { byte = get_or bs i 0; rights = r })
-find-run_inside at r [] q i e h = absurd (omega arith)
-find-run_inside at r (b ∷ bs) q zero e h =
-    let same : q ≡ at = omega arith in
-    elim (tied_tells q at) [ inl p ↦ ap (λ t. cond t (Some (record { byte = b; rights = r })) (find nat_cmp q (run_of (at + 1) r bs))) p.0 | inr p ↦ absurd (p.1 same) ]
-find-run_inside at r (b ∷ bs) q (suc i) e h =
-    let next : q ≡ at + 1 + i = omega arith in
-    let less : i < length bs = omega arith in
-    elim (tied_tells q at) [
-      | inl p ↦ absurd (let same = p.1 in omega arith)
-      | inr p ↦ ap (λ t. cond t (Some (record { byte = b; rights = r })) (find nat_cmp q (run_of (at + 1) r bs))) p.0 ∙ find-run_inside (at + 1) r bs q i next less
-    ]
-
-pub find-run_outside : (at : ℕ) (r : Rights) (bs : List ℕ) (q : ℕ) → (at ≤ q → q < at + length bs → ⊥) → find nat_cmp q (run_of at r bs) ≡ None
-find-run_outside at r [] q out = refl
-find-run_outside at r (b ∷ bs) q out =
-    elim (tied_tells q at) [
-      | inl p ↦ absurd (let same = p.1 in out (omega arith) (omega arith))
-      | inr p ↦ ap (λ t. cond t (Some (record { byte = b; rights = r })) (find nat_cmp q (run_of (at + 1) r bs))) p.0
-          ∙ find-run_outside (at + 1) r bs q (λ l h. out (omega arith) (omega arith))
-    ]
+use Rattle.guest_words.specs.Cells.{run_of}
+use Rattle.guest_words.proofs.CellRuns.{or_else, find-append, find-run_inside, find-run_outside}
+use Rattle.guest_words.proofs.StartMemory.{addresses_tell}
+use Rattle.plain_memory.specs.Pages.{runs_of, cells_of, AreWhole}
 
 abbrev pub cell_in : Option Page → ℕ → Option Cell
 cell_in (Some p) i = Some (record { byte = get_or p.bytes i 0; rights = p.rights })
@@ -63,7 +28,7 @@ find-runs : (es : List (ℕ × Page)) → AreWhole es → (n i q : ℕ) → q �
 find-runs [] whole n i q e h = refl
 find-runs (x ∷ es) whole n i q e h =
     find-append (run_of (x.0 * 4096) x.1.rights x.1.bytes) (runs_of es) q
-    ∙ elim (tied_tells n x.0) [
+    ∙ elim (addresses_tell n x.0) [
       | inl p ↦
           let here : q ≡ x.0 * 4096 + i = let same = p.1 in omega arith in
           let less : i < length x.1.bytes = let all = whole.0 in omega arith in

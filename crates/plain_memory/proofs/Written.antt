@@ -9,7 +9,8 @@ use Rattle.guest_words.specs.declared.image.Cell.{Cell}
 use Rattle.plain_memory.specs.declared.page.Page.{Page}
 use Rattle.guest_words.specs.Space.{with_byte, with_cell}
 use Rattle.plain_memory.specs.Pages.{cells_of, AreWhole}
-use Rattle.plain_memory.proofs.Found.{cell_in, get-cells, tied_tells}
+use Rattle.guest_words.proofs.StartMemory.{addresses_tell}
+use Rattle.plain_memory.proofs.Found.{cell_in, get-cells}
 
 pub AreWhole-set_value : (t : ℕ → Bool) (es : List (ℕ × Page)) (p : Page) → AreWhole es → length p.bytes ≡ 4096 → AreWhole (set_value t es p)
 AreWhole-set_value t [] p whole l = whole
@@ -36,7 +37,7 @@ cells_of-written es fs a v p whole_es whole_fs l here there =
     let new : Cell = record { byte = v; rights = p.rights } in
     same_map nat_cmp_total nat_cmp-IsAntisymmetric _ _ (λ q.
     get-cells fs whole_fs q ∙ ap (λ o. cell_in o (q % 4096)) (there (q / 4096))
-    ∙ both q (tied_tells q a) (tied_tells (a / 4096) (q / 4096))
+    ∙ both q (addresses_tell q a) (addresses_tell (a / 4096) (q / 4096))
     ∙ sym (get-insert nat_cmp_total (cells_of es) a new q))
     ∙ ap (with_cell (cells_of es) a v) (sym old)
   where

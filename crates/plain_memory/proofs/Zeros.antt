@@ -10,8 +10,9 @@ use Rattle.guest_words.specs.declared.image.Rights.{Rights}
 use Rattle.guest_words.specs.declared.image.Cell.{Cell}
 use Rattle.plain_memory.specs.declared.page.Page.{Page}
 use Rattle.plain_memory.specs.Pages.{cells_of, AreWhole}
-use Rattle.plain_memory.specs.Blank.{zero_cell, zero_in}
-use Rattle.plain_memory.proofs.Found.{cell_in, get-cells, tied_tells}
+use Rattle.guest_words.specs.Blank.{zero_cell, zero_in}
+use Rattle.guest_words.proofs.StartMemory.{addresses_tell}
+use Rattle.plain_memory.proofs.Found.{cell_in, get-cells}
 
 abbrev at_page : List (ℕ × Page) → ℕ → Option Page
 at_page es n = lookup (is_at (nat_cmp n)) es
@@ -35,7 +36,7 @@ pub get-page_put : (es fs : List (ℕ × Page)) (n : ℕ) (page : Page) (rights 
     → (a : ℕ) → get (cells_of fs) a ≡ option_or (get (cells_of es) a) (zero_in n rights a)
 get-page_put es fs n page rights whole_es whole_fs blank absent there a =
     get-cells fs whole_fs a ∙ ap (λ o. cell_in o (a % 4096)) (there (a / 4096))
-    ∙ elim (tied_tells n (a / 4096)) [
+    ∙ elim (addresses_tell n (a / 4096)) [
       | inl s ↦
           let none : at_page es (a / 4096) ≡ None = ap (at_page es) (sym s.1) ∙ is_none_of (at_page es n) absent in
           let empty : get (cells_of es) a ≡ None = get-cells es whole_es a ∙ ap (λ o. cell_in o (a % 4096)) none in
@@ -58,7 +59,7 @@ get-page_put es fs n page rights whole_es whole_fs blank absent there a =
 pub get-page_there : (es : List (ℕ × Page)) (n : ℕ) (rights : Rights) → AreWhole es → is_some (at_page es n) ≡ true
     → (a : ℕ) → get (cells_of es) a ≡ option_or (get (cells_of es) a) (zero_in n rights a)
 get-page_there es n rights whole there a =
-    elim (tied_tells n (a / 4096)) [
+    elim (addresses_tell n (a / 4096)) [
       | inl s ↦
           let is : is_some (at_page es (a / 4096)) ≡ true = ap (λ m. is_some (at_page es m)) (sym s.1) ∙ there in
           let has : is_some (get (cells_of es) a) ≡ true = ap is_some (get-cells es whole a) ∙ some_cell (at_page es (a / 4096)) is in

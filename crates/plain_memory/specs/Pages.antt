@@ -1,15 +1,10 @@
 -- Pages as the map from addresses that they make.
-use Rattle.std.specs.Prelude.{ℕ, ◌+◌, ◌*◌, List, [], ◌∷◌, ◌++◌, ◌≡◌, length}
+use Rattle.std.specs.Prelude.{ℕ, ◌*◌, List, [], ◌∷◌, ◌++◌, ◌≡◌, length}
 use Rattle.std.specs.FinMap as map
-use Rattle.guest_words.specs.declared.image.Rights.{Rights}
 use Rattle.guest_words.specs.declared.image.Cell.{Cell}
 use Rattle.guest_words.specs.Space.{Space}
+use Rattle.guest_words.specs.Cells.{run_of}
 use Rattle.plain_memory.specs.declared.page.Page.{Page}
-
--- the bytes from an address on, each with its address and rights
-abbrev pub run_of : ℕ → Rights → List ℕ → List (ℕ × Cell)
-run_of at rights [] = []
-run_of at rights (b ∷ bs) = (at, record { byte = b; rights = rights }) ∷ run_of (at + 1) rights bs
 
 -- the bytes of pages by their numbers
 abbrev pub runs_of : List (ℕ × Page) → List (ℕ × Cell)

@@ -1,7 +1,7 @@
 ghost use Rattle.std.specs.Prelude.{◌≡◌, IfOk, OnOk, OnErr};
 ghost use Rattle.std.specs.FinMap as map;
 ghost use Rattle.guest_words.specs.Space.{with_byte};
-ghost use Rattle.plain_memory.specs.Blank.{zero_in, Brings};
+ghost use Rattle.guest_words.specs.Blank.{zero_in, Brings};
 
 use crate::page::Page;
 use guest_words::limits::PAGE;

@@ -22,7 +22,7 @@ impl Memory {
         }
     }
 
-    #[tactic(auto, using(crate::proofs::Bytewise::number_at_1))]
+    #[tactic(auto, using(guest_words::proofs::Bytewise::number_at_1))]
     fn u8_at(&self, place: u64) -> u8
         ensures value { result ≡ number_at self.now place 1 }
     {
@@ -32,7 +32,7 @@ impl Memory {
         }
     }
 
-    #[tactic(auto, using(crate::proofs::Bytewise::number_at_2))]
+    #[tactic(auto, using(guest_words::proofs::Bytewise::number_at_2))]
     fn u16_at(&self, place: u64) -> u16
         requires fits { place + 2 ≤ 2 ^ 64 }
         ensures value { result ≡ number_at self.now place 2 }
@@ -41,7 +41,7 @@ impl Memory {
     }
 
     /// The number of the four bytes from an address on.
-    #[tactic(auto, using(crate::proofs::Bytewise::number_at_4))]
+    #[tactic(auto, using(guest_words::proofs::Bytewise::number_at_4))]
     pub fn u32_at(&self, place: u64) -> u32
         requires fits { place + 4 ≤ 2 ^ 64 }
         ensures value { result ≡ number_at self.now place 4 }
@@ -49,7 +49,7 @@ impl Memory {
         u32::from(self.u16_at(place)) + 65_536 * u32::from(self.u16_at(place + 2))
     }
 
-    #[tactic(auto, using(crate::proofs::Bytewise::number_at_8))]
+    #[tactic(auto, using(guest_words::proofs::Bytewise::number_at_8))]
     fn u64_at(&self, place: u64) -> u64
         requires fits { place + 8 ≤ 2 ^ 64 }
         ensures value { result ≡ number_at self.now place 8 }

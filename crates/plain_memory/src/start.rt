@@ -2,7 +2,7 @@ ghost use Rattle.std.specs.Prelude.{◌≡◌, ◌+◌, ◌<◌, ◌^◌, IfOk, 
 ghost use Rattle.std.specs.List.{All};
 ghost use Rattle.guest_words.specs.Image.{IsLoad};
 ghost use Rattle.guest_words.specs.Start.{memory_of};
-ghost use Rattle.plain_memory.specs.Blank.{zeros_in, blank_in, filled, Brings};
+ghost use Rattle.guest_words.specs.Blank.{zeros_in, blank_in, with_loads, Brings};
 
 use crate::memory::Memory;
 use guest_words::limits::{PAGE, STACK_END, STACK_FROM};
@@ -53,7 +53,7 @@ impl Memory {
     // Of two loads that bring a byte to one address the first has its way, so it comes last.
     fn fill_loads(&mut self, loads: &[Load])
         requires loads { All IsLoad loads.now }
-        ensures value { self.new ≡ filled loads.now self.old }
+        ensures value { self.new ≡ with_loads loads.now self.old }
     {
         match loads {
             [] => {}

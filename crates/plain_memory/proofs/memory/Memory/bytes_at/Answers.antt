@@ -1,6 +1,6 @@
 use Rattle.std.proofs.Common.{◌∙◌, ◌+◌, ◌-◌, ◌++◌, [], ◌∷◌, ap, sym, append-nil, append_assoc}
 use Rattle.guest_words.specs.Space.{bytes_at}
-use Rattle.plain_memory.proofs.Bytewise.{bytes_at-next, bytes_at-done, number_at_1}
+use Rattle.guest_words.proofs.Bytewise.{bytes_at-next, bytes_at-done, number_at_1}
 use Rattle.plain_memory.proofs.memory.Memory.bytes_at.Goals as goal
 
 pub loop-i-preserved : goal.loop-i-preserved

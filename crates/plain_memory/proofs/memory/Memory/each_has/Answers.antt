@@ -1,6 +1,6 @@
 use Rattle.std.proofs.Common.{◌∙◌, sym}
 use Rattle.plain_memory.specs.Right.{right_of}
-use Rattle.plain_memory.proofs.Bytewise.{each_has-next, each_has-lacks, each_has-done}
+use Rattle.guest_words.proofs.Bytewise.{each_has-next, each_has-lacks, each_has-done}
 use Rattle.plain_memory.proofs.memory.Memory.each_has.Goals as goal
 
 pub returns-then-not-has : goal.returns-then-not-has

@@ -3,8 +3,8 @@ use Rattle.std.proofs.lemmas.List.{drop_more}
 use Rattle.std.specs.Option.{option_or}
 use Rattle.std.specs.FinMap.{get}
 use Rattle.guest_words.specs.declared.image.Load.{Load}
-use Rattle.plain_memory.specs.Blank.{blank_in}
-use Rattle.plain_memory.proofs.Blanks.{blank_in-cons}
+use Rattle.guest_words.specs.Blank.{blank_in}
+use Rattle.guest_words.proofs.Blanks.{blank_in-cons}
 use Rattle.plain_memory.proofs.memory.Memory.put_loads.Goals as goal
 
 pub loop-load-preserved : goal.loop-load-preserved

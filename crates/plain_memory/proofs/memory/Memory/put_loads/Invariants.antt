@@ -1,7 +1,7 @@
 use Rattle.std.proofs.Common.{◌≡◌, ℕ, drop}
 use Rattle.std.specs.Option.{option_or}
 use Rattle.std.specs.FinMap.{get}
-use Rattle.plain_memory.specs.Blank.{blank_in}
+use Rattle.guest_words.specs.Blank.{blank_in}
 use Rattle.plain_memory.proofs.memory.Memory.put_loads.Given as goal
 
 abbrev pub invariant-loop-load : goal.invariant-loop-load

@@ -1,6 +1,6 @@
 use Rattle.std.proofs.Common.{◌∙◌, ap, sym, subst}
 use Rattle.std.specs.FinMap.{get}
-use Rattle.plain_memory.specs.Blank.{zero_in}
+use Rattle.guest_words.specs.Blank.{zero_in}
 use Rattle.std.specs.Option.{option_or}
 use Rattle.plain_memory.specs.Pages.{AreWhole}
 use Rattle.plain_memory.proofs.Found.{AreWhole-insert_entry}

@@ -1,7 +1,7 @@
 use Rattle.std.proofs.Common.{◌≡◌, ℕ, ◌+◌, ◌-◌}
 use Rattle.std.specs.Option.{option_or}
 use Rattle.std.specs.FinMap.{get}
-use Rattle.plain_memory.specs.Blank.{zeros_in}
+use Rattle.guest_words.specs.Blank.{zeros_in}
 use Rattle.plain_memory.proofs.memory.Memory.put_pages.Given as goal
 
 abbrev pub invariant-loop-i : goal.invariant-loop-i

@@ -1,6 +1,6 @@
 use Rattle.std.proofs.Common.{◌∙◌, ◌+◌, ◌-◌, ◌/◌, ap, sym}
 use Rattle.guest_words.specs.Space.{with_bytes, low_bytes}
-use Rattle.plain_memory.proofs.Bytewise.{stored-next, stored-done}
+use Rattle.guest_words.proofs.Bytewise.{stored-next, stored-done}
 use Rattle.plain_memory.proofs.memory.Memory.store.Goals as goal
 
 pub loop-i-preserved : goal.loop-i-preserved

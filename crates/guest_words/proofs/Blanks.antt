@@ -12,10 +12,10 @@ use Rattle.guest_words.specs.declared.image.Cell.{Cell}
 use Rattle.guest_words.specs.declared.image.Load.{Load}
 use Rattle.guest_words.specs.Space.{Space, with_cell, with_byte, with_bytes}
 use Rattle.guest_words.specs.Image.{IsLoad}
-use Rattle.guest_words.specs.Start.{is_in_pages, is_in_bytes, is_in_stack, stack_cell, filled as byte_filled, loaded_cell, memory_of}
+use Rattle.guest_words.specs.Start.{is_in_pages, is_in_bytes, is_in_stack, stack_cell, filled, loaded_cell, memory_of}
 use Rattle.guest_words.proofs.PageLaws.{contains-range}
 use Rattle.guest_words.proofs.StartMemory.{addresses_tell, get-memory_of, get-memory_of_past}
-use Rattle.plain_memory.specs.Blank.{zero_cell, zeros_in, blank_of, blank_in, filled}
+use Rattle.guest_words.specs.Blank.{zero_cell, zeros_in, blank_of, blank_in, with_loads}
 
 Decides-leb : (a b : ℕ) → Decides (nat_le a b) (a ≤ b)
 Decides-leb a b = (λ h. grind (arith, nat_tests, h), λ h. grind (arith, nat_tests))
@@ -125,28 +125,28 @@ over true b load a None o e = ap (λ x. overwritten (Some x) o) e
 over true b load a (Some other) None e = refl
 over true b load a (Some other) (Some cell) e = ap (λ x. overwritten (Some x) (Some cell)) e
 
-get-filled : (loads : List Load) (m : Space) (a : ℕ) → get (filled loads m) a ≡ overwritten (byte_found a (find (is_in_bytes a) loads)) (get m a)
-unfolding filled
-get-filled [] m a = refl
-get-filled (load ∷ loads) m a =
-    get-with_bytes (filled loads m) load.address load.bytes a
-    ∙ ap (overwritten (byte_in load.address load.bytes a)) (get-filled loads m a)
+get-with_loads : (loads : List Load) (m : Space) (a : ℕ) → get (with_loads loads m) a ≡ overwritten (byte_found a (find (is_in_bytes a) loads)) (get m a)
+unfolding with_loads
+get-with_loads [] m a = refl
+get-with_loads (load ∷ loads) m a =
+    get-with_bytes (with_loads loads m) load.address load.bytes a
+    ∙ ap (overwritten (byte_in load.address load.bytes a)) (get-with_loads loads m a)
     ∙ over (is_in_bytes a load) (slice_index load.bytes (a - load.address)) load a (find (is_in_bytes a) loads) (get m a) refl
 
 -- the bytes of a list of loads, by those of its first and of the others
-pub filled-first : (loads : List Load) (load : Load) (m : Space) → 1 ≤ length loads → load ≡ get_or loads 0 load
-    → filled loads m ≡ with_bytes (filled (take (length loads - 1) (drop 1 loads)) m) load.address load.bytes
-unfolding filled
-filled-first [] load m some is = absurd (omega arith)
-filled-first (first ∷ rest) load m some is =
+pub with_loads-first : (loads : List Load) (load : Load) (m : Space) → 1 ≤ length loads → load ≡ get_or loads 0 load
+    → with_loads loads m ≡ with_bytes (with_loads (take (length loads - 1) (drop 1 loads)) m) load.address load.bytes
+unfolding with_loads
+with_loads-first [] load m some is = absurd (omega arith)
+with_loads-first (first ∷ rest) load m some is =
     let all : take (suc (length rest) - 1) rest ≡ rest = take_all (suc (length rest) - 1) rest (omega arith) in
-    ap (λ (x : Load). with_bytes (filled rest m) x.address x.bytes) (sym is)
-    ∙ sym (ap (λ ls. with_bytes (filled ls m) load.address load.bytes) all)
+    ap (λ (x : Load). with_bytes (with_loads rest m) x.address x.bytes) (sym is)
+    ∙ sym (ap (λ ls. with_bytes (with_loads ls m) load.address load.bytes) all)
 
-pub filled-none : (loads : List Load) (m : Space) → length loads < 1 → filled loads m ≡ m
-unfolding filled
-filled-none [] m none = refl
-filled-none (load ∷ loads) m none = absurd (omega arith)
+pub with_loads-none : (loads : List Load) (m : Space) → length loads < 1 → with_loads loads m ≡ m
+unfolding with_loads
+with_loads-none [] m none = refl
+with_loads-none (load ∷ loads) m none = absurd (omega arith)
 
 -- no load has a byte or a page from the limit of loads on
 bytes_below : (loads : List Load) → All IsLoad loads → (a : ℕ) → 0x3f00000000 ≤ a → find (is_in_bytes a) loads ≡ None
@@ -181,7 +181,7 @@ stack_in-is a =
 -- bytes in the pages of loads, where the stack isn't
 abbrev loaded_by : ℕ → Option Load → Option Load → Option Cell
 loaded_by a None bytes = None
-loaded_by a (Some load) bytes = Some (record { byte = byte_filled a bytes; rights = load.rights })
+loaded_by a (Some load) bytes = Some (record { byte = filled a bytes; rights = load.rights })
 
 loaded : (a : ℕ) (pages bytes : Option Load) → overwritten (byte_found a bytes) (blank_of a pages) ≡ loaded_by a pages bytes
 loaded a None None = refl
@@ -190,11 +190,11 @@ loaded a (Some page) None = refl
 loaded a (Some page) (Some load) = refl
 
 -- memory with the stack, the pages and the bytes is that of the start
-pub memory_of-filled : (loads : List Load) (m : Space) → All IsLoad loads
+pub memory_of-with_loads : (loads : List Load) (m : Space) → All IsLoad loads
     → ((a : ℕ) → get m a ≡ option_or (stack_in a) (blank_in loads a))
-    → filled loads m ≡ memory_of loads
-memory_of-filled loads m each blank = same_map nat_cmp_total nat_cmp-IsAntisymmetric _ _ (λ a.
-    get-filled loads m a
+    → with_loads loads m ≡ memory_of loads
+memory_of-with_loads loads m each blank = same_map nat_cmp_total nat_cmp-IsAntisymmetric _ _ (λ a.
+    get-with_loads loads m a
     ∙ ap (overwritten (byte_found a (find (is_in_bytes a) loads))) (blank a ∙ ap (λ o. option_or o (blank_in loads a)) (stack_in-is a))
     ∙ first_of_two a (at_or_past a))
   where

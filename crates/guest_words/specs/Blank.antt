@@ -34,6 +34,6 @@ abbrev pub blank_in : List Load → ℕ → Option Cell
 blank_in loads address = blank_of address (find (is_in_pages address) loads)
 
 -- memory with the bytes of the loads stored, those of the first load last
-unfoldable pub filled : List Load → Space → Space
-filled [] m = m
-filled (load ∷ loads) m = with_bytes (filled loads m) load.address load.bytes
+unfoldable pub with_loads : List Load → Space → Space
+with_loads [] m = m
+with_loads (load ∷ loads) m = with_bytes (with_loads loads m) load.address load.bytes
