@@ -3,7 +3,7 @@
 use Rattle.std.proofs.Common.{◌≡◌, ℕ, refl, ◌-◌}
 use Rattle.std.specs.Prelude.{true}
 use Rattle.guest_words.specs.Arithmetic.{all_ones}
-use Rattle.guest_words.specs.Effects.{value_of, is_taken, place_of, loaded_of, amo_of}
+use Rattle.guest_words.specs.Effects.{value_of, is_taken, jump_place, loaded_of, amo_of}
 use Rattle.guest_words.specs.declared.inst.Op.{Op}
 use Rattle.guest_words.specs.declared.inst.Op.TheVariants.{Mul, Mulh, Mulhsu, Mulhu, Div, Divu, Rem, Remu, Divw, Divuw, Remw, Remuw, Addw, Sraw, Sra, Blt, Bgeu, Jalr, Jal, Lb, Lbu, Lw, Lwu, AmominW, AmominuW, AmoaddW, AmomaxD}
 
@@ -108,10 +108,10 @@ pub all_ones_not_below : is_taken Bgeu all_ones 0 ≡ true
 all_ones_not_below = refl
 
 -- JALR drops bit 0 of the sum, and wraps
-pub jalr_clears_a_bit : place_of Jalr 0 all_ones 0x14 ≡ 0x12
+pub jalr_clears_a_bit : jump_place Jalr 0 all_ones 0x14 ≡ 0x12
 jalr_clears_a_bit = refl
 
-pub jal_wraps : place_of Jal 0x10000 0 (all_ones - 1) ≡ 0xfffe
+pub jal_wraps : jump_place Jal 0x10000 0 (all_ones - 1) ≡ 0xfffe
 jal_wraps = refl
 
 -- bytes are sign-extended or not

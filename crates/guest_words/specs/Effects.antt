@@ -73,12 +73,12 @@ is_taken Bgeu a b = not (nat_lt a b)
 is_taken _ a b = false
 
 -- where a jump or a taken branch goes: JALR's target has bit 0 cleared
-abbrev pub place_of : Op → ℕ → ℕ → ℕ → ℕ
-place_of Jalr pc a i = sum a i / 2 * 2
-place_of _ pc a i = sum pc i
+abbrev pub jump_place : Op → ℕ → ℕ → ℕ → ℕ
+jump_place Jalr pc a i = sum a i / 2 * 2
+jump_place _ pc a i = sum pc i
 
 abbrev pub target_of : Inst → ℕ → ℕ → ℕ
-target_of inst pc a = place_of inst.op pc a (word_of inst.imm)
+target_of inst pc a = jump_place inst.op pc a (word_of inst.imm)
 
 -- what a row that reads memory puts into rd, of the bytes as a little-endian number
 abbrev pub loaded_of : Op → ℕ → ℕ

@@ -27,8 +27,8 @@ abbrev pub second : Hart → Inst → ℕ
 second hart inst = reg hart inst.rs2
 
 -- where a load or a store goes: rs1's value and the immediate
-abbrev pub place_of : Hart → Inst → ℕ
-place_of hart inst = (first hart inst + word_of inst.imm) % 2 ^ 64
+abbrev pub access_place : Hart → Inst → ℕ
+access_place hart inst = (first hart inst + word_of inst.imm) % 2 ^ 64
 
 -- the hart behind an instruction that puts a value into rd
 abbrev pub with_result : Hart → Inst → ℕ → Hart
@@ -112,8 +112,8 @@ abbrev pub act_of_class : Class → Space → Hart → Inst → Act
 act_of_class class.Register m hart inst = register_act hart inst
 act_of_class class.Branch m hart inst = branch_act hart inst
 act_of_class class.Jump m hart inst = jump_act hart inst
-act_of_class (class.Load width) m hart inst = load_act m hart inst (place_of hart inst) width
-act_of_class (class.Store width) m hart inst = store_act m hart inst (place_of hart inst) width
+act_of_class (class.Load width) m hart inst = load_act m hart inst (access_place hart inst) width
+act_of_class (class.Store width) m hart inst = store_act m hart inst (access_place hart inst) width
 act_of_class class.Fence m hart inst = Next (past hart) None
 act_of_class class.Call m hart inst = Call (request_of hart)
 act_of_class class.Break m hart inst = Fault Breakpoint

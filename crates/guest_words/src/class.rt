@@ -36,93 +36,42 @@ impl Op {
         ensures { result ≡ class_of self }
     {
         match self {
-            Op::Lui => Class::Register,
-            Op::Auipc => Class::Register,
-            Op::Jal => Class::Jump,
-            Op::Jalr => Class::Jump,
-            Op::Beq => Class::Branch,
-            Op::Bne => Class::Branch,
-            Op::Blt => Class::Branch,
-            Op::Bge => Class::Branch,
-            Op::Bltu => Class::Branch,
-            Op::Bgeu => Class::Branch,
-            Op::Lb => Class::Load { width: 1 },
-            Op::Lh => Class::Load { width: 2 },
-            Op::Lw => Class::Load { width: 4 },
+            Op::Jal | Op::Jalr => Class::Jump,
+            Op::Beq | Op::Bne | Op::Blt | Op::Bge | Op::Bltu | Op::Bgeu => Class::Branch,
+            Op::Lb | Op::Lbu => Class::Load { width: 1 },
+            Op::Lh | Op::Lhu => Class::Load { width: 2 },
+            Op::Lw | Op::Lwu => Class::Load { width: 4 },
             Op::Ld => Class::Load { width: 8 },
-            Op::Lbu => Class::Load { width: 1 },
-            Op::Lhu => Class::Load { width: 2 },
-            Op::Lwu => Class::Load { width: 4 },
             Op::Sb => Class::Store { width: 1 },
             Op::Sh => Class::Store { width: 2 },
             Op::Sw => Class::Store { width: 4 },
             Op::Sd => Class::Store { width: 8 },
-            Op::Addi => Class::Register,
-            Op::Slti => Class::Register,
-            Op::Sltiu => Class::Register,
-            Op::Xori => Class::Register,
-            Op::Ori => Class::Register,
-            Op::Andi => Class::Register,
-            Op::Slli => Class::Register,
-            Op::Srli => Class::Register,
-            Op::Srai => Class::Register,
-            Op::Addiw => Class::Register,
-            Op::Slliw => Class::Register,
-            Op::Srliw => Class::Register,
-            Op::Sraiw => Class::Register,
-            Op::Add => Class::Register,
-            Op::Sll => Class::Register,
-            Op::Slt => Class::Register,
-            Op::Sltu => Class::Register,
-            Op::Xor => Class::Register,
-            Op::Srl => Class::Register,
-            Op::Or => Class::Register,
-            Op::And => Class::Register,
-            Op::Sub => Class::Register,
-            Op::Sra => Class::Register,
-            Op::Mul => Class::Register,
-            Op::Mulh => Class::Register,
-            Op::Mulhsu => Class::Register,
-            Op::Mulhu => Class::Register,
-            Op::Div => Class::Register,
-            Op::Divu => Class::Register,
-            Op::Rem => Class::Register,
-            Op::Remu => Class::Register,
-            Op::Addw => Class::Register,
-            Op::Sllw => Class::Register,
-            Op::Srlw => Class::Register,
-            Op::Subw => Class::Register,
-            Op::Sraw => Class::Register,
-            Op::Mulw => Class::Register,
-            Op::Divw => Class::Register,
-            Op::Divuw => Class::Register,
-            Op::Remw => Class::Register,
-            Op::Remuw => Class::Register,
             Op::Fence => Class::Fence,
             Op::Ecall => Class::Call,
             Op::Ebreak => Class::Break,
             Op::LrW => Class::LoadReserved { width: 4 },
             Op::ScW => Class::StoreConditional { width: 4 },
-            Op::AmoswapW => Class::Atomic { width: 4 },
-            Op::AmoaddW => Class::Atomic { width: 4 },
-            Op::AmoxorW => Class::Atomic { width: 4 },
-            Op::AmoandW => Class::Atomic { width: 4 },
-            Op::AmoorW => Class::Atomic { width: 4 },
-            Op::AmominW => Class::Atomic { width: 4 },
-            Op::AmomaxW => Class::Atomic { width: 4 },
-            Op::AmominuW => Class::Atomic { width: 4 },
-            Op::AmomaxuW => Class::Atomic { width: 4 },
+            Op::AmoswapW
+            | Op::AmoaddW
+            | Op::AmoxorW
+            | Op::AmoandW
+            | Op::AmoorW
+            | Op::AmominW
+            | Op::AmomaxW
+            | Op::AmominuW
+            | Op::AmomaxuW => Class::Atomic { width: 4 },
             Op::LrD => Class::LoadReserved { width: 8 },
             Op::ScD => Class::StoreConditional { width: 8 },
-            Op::AmoswapD => Class::Atomic { width: 8 },
-            Op::AmoaddD => Class::Atomic { width: 8 },
-            Op::AmoxorD => Class::Atomic { width: 8 },
-            Op::AmoandD => Class::Atomic { width: 8 },
-            Op::AmoorD => Class::Atomic { width: 8 },
-            Op::AmominD => Class::Atomic { width: 8 },
-            Op::AmomaxD => Class::Atomic { width: 8 },
-            Op::AmominuD => Class::Atomic { width: 8 },
-            Op::AmomaxuD => Class::Atomic { width: 8 },
+            Op::AmoswapD
+            | Op::AmoaddD
+            | Op::AmoxorD
+            | Op::AmoandD
+            | Op::AmoorD
+            | Op::AmominD
+            | Op::AmomaxD
+            | Op::AmominuD
+            | Op::AmomaxuD => Class::Atomic { width: 8 },
+            _ => Class::Register,
         }
     }
 }

@@ -58,7 +58,7 @@ fn frames_open_and_close(rt: HostRuntime) -> Result<(), Fail> {
         ra: 0x10024,
         ..FRAME
     })?;
-    let copy = frames.copy(rt.alloc())?;
+    let copy = Frames::of(frames.items().to_vec(rt.alloc())?);
     frames.truncate(1);
     assert!(rt; frames.items() == [FRAME].as_slice());
     assert!(rt; copy.items().len() == 2);

@@ -25,7 +25,7 @@ use Rattle.guest_words.specs.State.{State, frames_at}
 use Rattle.guest_words.specs.declared.fault.FaultName.TheVariants.{StoreRights, FetchMisaligned, FetchRights}
 use Rattle.guest_words.specs.Instructions.{instruction_of}
 use Rattle.guest_words.specs.Harts.{reg, past}
-use Rattle.guest_words.specs.HartAct.{hart_act, arrived_or, arrival_of, fetched_act, act_of_inst, act_of_class, store_act, write_of, jump_to, linked, first, second, place_of}
+use Rattle.guest_words.specs.HartAct.{hart_act, arrived_or, arrival_of, fetched_act, act_of_inst, act_of_class, store_act, write_of, jump_to, linked, first, second, access_place}
 use Rattle.guest_words.specs.Effects.{class_of, is_taken, target_of}
 use Rattle.guest_words.specs.Calls.{request_of, reply_of, cut, reply_of_transfer, ebadf, efault, makes_hart, child_in}
 use Rattle.guest_words.specs.CallChanges.{facts_of, is_usable, is_readable, word_at, any_other, is_live, free_slot}
@@ -111,8 +111,8 @@ class_made class.Register m frames hart inst is = tt
 class_made class.Branch m frames hart inst is =
     either IsMade (is_taken inst.op (first hart inst) (second hart inst)) _ _ (jump_made (past hart) (target_of inst hart.pc (first hart inst))) tt
 class_made class.Jump m frames hart inst is = jump_made (linked hart inst) (target_of inst hart.pc (first hart inst))
-class_made (class.Load width) m frames hart inst is = either IsMade (can_read m (place_of hart inst) width) _ _ tt tt
-class_made (class.Store width) m frames hart inst is = store_made m hart inst (place_of hart inst) width
+class_made (class.Load width) m frames hart inst is = either IsMade (can_read m (access_place hart inst) width) _ _ tt tt
+class_made (class.Store width) m frames hart inst is = store_made m hart inst (access_place hart inst) width
 class_made class.Fence m frames hart inst is = tt
 class_made class.Call m frames hart inst is = served hart frames is
 class_made class.Break m frames hart inst is = tt

@@ -20,7 +20,7 @@ use Rattle.guest_words.specs.CallChanges.{woken, unwoken, readied, roused, clear
 use Rattle.plain_machine.specs.declared.entry.Entry.{Entry, Ran, Entered, Called, Rescued', Ended}
 use Rattle.plain_machine.specs.Built.{seen}
 use Rattle.plain_machine.specs.Acts.{built_in}
-use Rattle.plain_machine.specs.After.{moved, next, ran, place_of, placed, with_record, called, taken_back, after, state_after}
+use Rattle.plain_machine.specs.After.{moved, next, ran, read_place, placed, with_record, called, taken_back, after, state_after}
 use Rattle.plain_machine.specs.Legal.{is_ordinary}
 use Rattle.plain_machine.proofs.SeenActs.{by_act, seen-is}
 use Rattle.plain_machine.specs.Steps.{counted}
@@ -151,7 +151,7 @@ called_keeps : (h : ℕ) (call : Record) (s : State) → (called h call s).budge
 unfolding called
 called_keeps h call s = by call.way
   where
-    by : (w : Way) → (placed w (place_of (seen s h)) call.bytes (with_record call s)).budget ≡ s.budget
+    by : (w : Way) → (placed w (read_place (seen s h)) call.bytes (with_record call s)).budget ≡ s.budget
     by way.Read = refl
     by way.Write = refl
     by way.Close = refl

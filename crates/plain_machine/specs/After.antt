@@ -29,9 +29,9 @@ ran zero h s = s
 ran (suc count) h s = ran count h (next h s)
 
 -- where a read puts its bytes
-abbrev pub place_of : StateAct → ℕ
-place_of (Request w port asked place) = place
-place_of _ = 0
+abbrev pub read_place : StateAct → ℕ
+read_place (Request w port asked place) = place
+read_place _ = 0
 
 abbrev pub placed : Way → ℕ → List ℕ → State → State
 placed way.Read place bytes s = stored place bytes s
@@ -45,7 +45,7 @@ with_record r s = record s { records = s.records ++ r ∷ []; steps = s.steps + 
 unfoldable pub called : ℕ → Record → State → State
 called h r s =
     with_closed h (with_hart (answered r.answer) h
-    (placed r.way (place_of (seen s h)) r.bytes (with_record r s)))
+    (placed r.way (read_place (seen s h)) r.bytes (with_record r s)))
 
 -- the hart made to return from the point that it has just come to
 abbrev pub given_back : Ret → Hart → Hart

@@ -6,7 +6,7 @@ use Rattle.guest_words.specs.declared.record.Record.{Record}
 use Rattle.guest_words.specs.Act.{StateAct, fits, Request}
 use Rattle.guest_words.specs.State.{with_hart, with_closed}
 use Rattle.guest_words.specs.CallChanges.{answered}
-use Rattle.plain_machine.specs.After.{called, place_of, placed, with_record}
+use Rattle.plain_machine.specs.After.{called, read_place, placed, with_record}
 use Rattle.plain_machine.proofs.SeenActs.{request_within, fits_short}
 use Rattle.plain_machine.proofs.plain.Plain.apply_request.Goals as goal
 
@@ -37,6 +37,6 @@ returns-clause-after c = λ _.
     ∙ ap (with_hart (answered call.answer) h) (
     c.place.ensures.value
     ∙ ap (placed call.way c.args.place call.bytes) (c.in_ok-note.ensures.ok ∙ ap (λ (r : Record). with_record r s) c.in_ok-copy.ensures.ok)
-    ∙ sym (ap (λ a. placed call.way (place_of a) call.bytes (with_record call s)) c.requires.act)
+    ∙ sym (ap (λ a. placed call.way (read_place a) call.bytes (with_record call s)) c.requires.act)
     )
     )
