@@ -106,31 +106,32 @@ impl Plain {
         }
     }
 
-    /// A hart enters a point.
+    /// The hart in a slot enters a point: its frame opens, and no hart keeps a reservation. Takes
+    /// memory for the frame.
     #[tactic(auto, unfolding(guest_words::specs::State::enter))]
-    pub(crate) fn enter(&mut self, h: u8, point: PointRef) -> Result<(), MemoryWant>
-        ensures ok { OnOk result (self.new ≡ enter h point self.old) }
+    pub fn enter(&mut self, hart: u8, point: PointRef) -> Result<(), MemoryWant>
+        ensures ok { OnOk result (self.new ≡ enter hart point self.old) }
         ensures err { OnErr result (self.new ≡ self.old) }
     {
-        self.slots.open(h, point)?;
+        self.slots.open(hart, point)?;
         self.slots.unreserve();
         Ok(())
     }
 
-    /// A call is taken back: the hart returns from it at once, and of all that it did its records
-    /// and steps alone stay.
+    /// Takes back a call, in the state that the hart in a slot came to it in: the hart returns from
+    /// it at once, and of all that the call did its records and steps alone stay. Takes no memory.
     #[tactic(auto, unfolding(crate::specs::After::taken_back))]
-    pub(crate) fn take_back(&mut self, h: u8, ret: Ret, call: Plain)
+    pub fn take_back(&mut self, hart: u8, ret: Ret, call: Plain)
         requires same { call.budget ≡ self.old.budget }
-        ensures value { self.new ≡ taken_back h ret call.records call.steps self.old }
+        ensures value { self.new ≡ taken_back hart ret call.records call.steps self.old }
     {
         let (records, steps) = call.into_trace();
         let _budget = self.budget;
         self.records = records;
         self.steps = steps;
         self.slots.unreserve();
-        self.slots.give_back(h, ret);
-        self.slots.close(h);
+        self.slots.give_back(hart, ret);
+        self.slots.close(hart);
     }
 
     fn into_trace(self) -> (Records, u64)
@@ -151,8 +152,8 @@ impl Plain {
         Ok(())
     }
 
-    /// The run ends.
-    pub(crate) fn end(&mut self, ending: Ending)
+    /// Ends the run. Takes no memory.
+    pub fn end(&mut self, ending: Ending)
         ensures value { self.new ≡ record self.old { ending = Some ending } }
     {
         self.ending = Some(ending);
