@@ -8,4 +8,5 @@ mod report;
 #[cfg(test)]
 mod tests;
 
+pub use numbers::hexadecimal;
 pub use report::report_text;

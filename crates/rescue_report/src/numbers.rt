@@ -5,7 +5,7 @@ use guest_words::{MemoryWant, Ret};
 use std::alloc::Global;
 
 /// A word in 16 hexadecimal digits.
-pub(crate) fn hexadecimal(alloc: Global, word: u64) -> Result<String, MemoryWant>
+pub fn hexadecimal(alloc: Global, word: u64) -> Result<String, MemoryWant>
     ensures ok { IfOk result (λ text. string_bytes text ≡ hexadecimal word) }
 {
     Ok(format!(in alloc; "{word:016x}")?)
