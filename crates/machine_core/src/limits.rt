@@ -1,0 +1,8 @@
+/// How much a run may have.
+#[derive(Clone, Copy, Debug, PartialEq, Eq)]
+pub struct Limits {
+    /// The slots for harts: 1 to 64.
+    pub harts: u8,
+    /// The steps after which the run ends: 1 to 20,000,000.
+    pub budget: u64,
+}

@@ -1,0 +1,39 @@
+use std::marker::Brand;
+
+/// Where a run began, which no code holds: the plain state, and what the devices told.
+pub trait Origin {
+    ghost use Rattle.guest_words.specs.State.{State};
+    ghost use Rattle.edge_ports.specs.Seen.{Seen};
+
+    ghost state: { State };
+
+    ghost devices: { Seen };
+}
+
+impl Origin for Brand {
+    ghost use Rattle.std.specs.Prelude.{[], None, true};
+    ghost use Rattle.std.specs.FinMap as map;
+    ghost use Rattle.edge_ports.specs.End.{untold};
+
+    ghost state = { record {
+      memory = map.empty;
+      slots = [];
+      waiting = [];
+      next_tid = 0;
+      records = [];
+      steps = 0;
+      ending = None;
+      points = [];
+      ports = 0;
+      budget = 0;
+    } };
+
+    ghost devices = { record {
+      input = untold 0 true;
+      out = untold 0 true;
+      err = untold 0 true;
+      ports = [];
+      closed = [];
+      shut = [];
+    } };
+}
