@@ -1,0 +1,115 @@
+use crate::image::image;
+use edge_ports::{MemoryShelf, MemorySink, MemorySource, ShelfFile};
+use guest_words::{Bytes, Name};
+use rescue_run::{Answer, alone_top};
+use std::alloc::{AllocError, Global};
+
+pub type Over = Answer<MemorySource, MemorySink>;
+
+/// What is run: the words of the program, its data, its rescue file, its input, and the numbers of
+/// the calls of its output and of its report that are to fail.
+#[derive(Clone, Copy)]
+pub struct Case<'a> {
+    pub words: &'a [u32],
+    pub data: Option<&'a [u8]>,
+    pub points: Option<&'a str>,
+    pub input: &'a [u8],
+    pub out_fails: &'a [u64],
+    pub report_fails: &'a [u64],
+}
+
+impl<'a> Case<'a> {
+    /// A program of these words, with nothing else.
+    pub fn of(words: &'a [u32]) -> Case<'a> {
+        Case {
+            words,
+            data: None,
+            points: None,
+            input: &[],
+            out_fails: &[],
+            report_fails: &[],
+        }
+    }
+}
+
+/// How it went: the answer, and what the report sink was given.
+#[derive(Drop)]
+pub struct Outcome {
+    pub answer: Over,
+    pub report: MemorySink,
+}
+
+fn name(alloc: Global, text: &str) -> Result<Name, AllocError> {
+    Ok(Name::of(String::from_str(alloc, text)?))
+}
+
+fn file(alloc: Global, text: &str, bytes: Vec<u8>) -> Result<ShelfFile, AllocError> {
+    Ok(ShelfFile {
+        name: name(alloc, text)?,
+        bytes: Bytes::of(bytes),
+    })
+}
+
+/// The command of a case, whose program is `p` and whose rescue file, if there is one, is `f`.
+pub fn command(alloc: Global, case: &Case) -> Result<Vec<String>, AllocError> {
+    let plain = ["alone", "--seed", "0", "p"];
+    let rescued = ["alone", "--seed", "0", "--points", "f", "p"];
+    match case.points {
+        None => list(alloc, &plain),
+        Some(_) => list(alloc, &rescued),
+    }
+}
+
+/// These words.
+pub fn list(alloc: Global, texts: &[&str]) -> Result<Vec<String>, AllocError> {
+    let mut words = Vec::new(alloc);
+    for text in texts {
+        words.push(String::from_str(alloc, text)?)?;
+    }
+    Ok(words)
+}
+
+fn shelf(alloc: Global, case: &Case) -> Result<MemoryShelf, AllocError> {
+    let mut files = Vec::new(alloc);
+    files.push(file(alloc, "p", image(alloc, case.words, case.data)?)?)?;
+    if let Some(points) = case.points {
+        files.push(file(alloc, "f", points.as_bytes().to_vec(alloc)?)?)?;
+    }
+    Ok(MemoryShelf::new(files, Vec::new(alloc)))
+}
+
+/// Runs a case.
+pub fn run(alloc: Global, case: &Case) -> Result<Outcome, AllocError> {
+    let words = command(alloc, case)?;
+    let mut shelf = shelf(alloc, case)?;
+    run_on(alloc, &words, &mut shelf, case)
+}
+
+// A sink with room for all that a row puts; its calls of these numbers fail.
+fn sink(alloc: Global, failing: &[u64]) -> Result<MemorySink, AllocError> {
+    match MemorySink::with_room(alloc, 1024, failing.to_vec(alloc)?) {
+        Ok(sink) => Ok(sink),
+        Err(_) => Err(AllocError),
+    }
+}
+
+/// Runs a case with these words and files.
+pub fn run_on(
+    alloc: Global,
+    words: &Vec<String>,
+    shelf: &mut MemoryShelf,
+    case: &Case,
+) -> Result<Outcome, AllocError> {
+    let mut report = sink(alloc, case.report_fails)?;
+    let answer = alone_top(
+        alloc,
+        words,
+        shelf,
+        MemorySource::new(Bytes::of(case.input.to_vec(alloc)?), Vec::new(alloc)),
+        sink(alloc, case.out_fails)?,
+        sink(alloc, &[])?,
+        Vec::new(alloc),
+        &mut report,
+    );
+    Ok(Outcome { answer, report })
+}

@@ -1,0 +1,21 @@
+//! Tests of the top call, over devices in memory.
+#![tactic(auto)]
+
+#[cfg(test)]
+mod budget;
+#[cfg(test)]
+mod case;
+#[cfg(test)]
+mod expected;
+#[cfg(test)]
+mod given;
+#[cfg(test)]
+mod image;
+#[cfg(test)]
+mod refusals;
+#[cfg(test)]
+mod replay;
+#[cfg(test)]
+mod rescues;
+#[cfg(test)]
+mod rows;

@@ -1,0 +1,137 @@
+use crate::case::{Case, list, run, run_on};
+use crate::image::image;
+use edge_ports::{MemoryShelf, ShelfFile};
+use guest_words::{Bytes, Name};
+use std::alloc::{AllocError, Global};
+use std::test::Fail;
+
+const SMALLEST: [u32; 3] = [0x05d00893, 0x00700513, 0x00000073];
+
+/// Files by their names.
+fn shelf(alloc: Global, files: Vec<(&str, Vec<u8>)>) -> Result<MemoryShelf, AllocError> {
+    let mut list = Vec::new(alloc);
+    for (name, bytes) in files {
+        list.push(ShelfFile {
+            name: Name::of(String::from_str(alloc, name)?),
+            bytes: Bytes::of(bytes),
+        })?;
+    }
+    Ok(MemoryShelf::new(list, Vec::new(alloc)))
+}
+
+// Whether these words on these files are refused by this line, with this status and no history.
+fn refused(
+    alloc: Global,
+    words: &[&str],
+    files: Vec<(&str, Vec<u8>)>,
+    status: u8,
+    line: &str,
+) -> Result<bool, AllocError> {
+    let words = list(alloc, words)?;
+    let mut shelf = shelf(alloc, files)?;
+    let outcome = run_on(alloc, &words, &mut shelf, &Case::of(&[]))?;
+    Ok(
+        outcome.answer.status == status
+            && outcome.answer.history.is_none()
+            && outcome.report.given() == line.as_bytes(),
+    )
+}
+
+const WORDS: [(&[&str], &str); 6] = [
+    (&[], "refused: words no-command\n"),
+    (&["fly"], "refused: words unknown-command\n"),
+    (&["alone"], "refused: words line\n"),
+    (&["alone", "--seed", "p"], "refused: words line\n"),
+    (&["alone", "--seed", "07", "p"], "refused: words line\n"),
+    (
+        &["alone", "--seed", "18446744073709551616", "p"],
+        "refused: words line\n",
+    ),
+];
+
+#[test]
+fn command_words(rt: HostRuntime) -> Result<(), Fail> {
+    let alloc = rt.alloc();
+    for (words, line) in WORDS {
+        assert!(rt; refused(alloc, words, Vec::new(alloc), 64, line)?, "{line}");
+    }
+    Ok(())
+}
+
+const CUTS: [(usize, &str); 6] = [
+    (0, "refused: elf too-short at 0\n"),
+    (63, "refused: elf too-short at 63\n"),
+    (64, "refused: elf headers-outside at 32\n"),
+    (100, "refused: elf headers-outside at 32\n"),
+    (120, "refused: elf segment-outside at 72\n"),
+    (131, "refused: elf segment-outside at 72\n"),
+];
+
+#[test]
+fn file_cut_short(rt: HostRuntime) -> Result<(), Fail> {
+    let alloc = rt.alloc();
+    for (length, line) in CUTS {
+        let mut file = image(alloc, &SMALLEST, None)?;
+        file.truncate(length);
+        let files = vec![in alloc; ("p", file)]?;
+        assert!(rt; refused(alloc, &["alone", "--seed", "0", "p"], files, 68, line)?);
+    }
+    Ok(())
+}
+
+/// The command with a rescue file.
+const RESCUED: [&str; 6] = ["alone", "--seed", "0", "--points", "f", "p"];
+
+#[test]
+fn missing_files(rt: HostRuntime) -> Result<(), Fail> {
+    let alloc = rt.alloc();
+    let none = Vec::new(alloc);
+    assert!(rt; refused(alloc, &RESCUED, none, 66, "refused: program unreadable\n")?);
+    let files = vec![in alloc; ("p", image(alloc, &SMALLEST, None)?)]?;
+    assert!(rt; refused(alloc, &RESCUED, files, 66, "refused: points unreadable\n")?);
+    let long = vec![in alloc; 0u8; 1_048_577]?;
+    let files = vec![in alloc; ("p", image(alloc, &SMALLEST, None)?), ("f", long)]?;
+    assert!(rt; refused(alloc, &RESCUED, files, 67, "refused: points too long\n")?);
+    Ok(())
+}
+
+// Section headers of 32 bytes, and an empty rescue file.
+#[test]
+fn broken_symbols(rt: HostRuntime) -> Result<(), Fail> {
+    let alloc = rt.alloc();
+    let mut file = image(alloc, &SMALLEST, None)?;
+    for (place, byte) in [(40, 64), (58, 32), (60, 1)] {
+        if let Some(old) = file.get_mut(place) {
+            *old = byte;
+        }
+    }
+    let files = vec![in alloc; ("p", file), ("f", Vec::new(alloc))]?;
+    let line = "refused: symbols section-size at 58\n";
+    assert!(rt; refused(alloc, &RESCUED, files, 69, line)?);
+    Ok(())
+}
+
+const POINTS: [(&str, &str); 3] = [
+    (
+        "[[point]]\nentry = 0x10002\nreturns = -1\n",
+        "refused: points misaligned at 0\n",
+    ),
+    (
+        "[[point]]\nentry = 0x10000\nreturns = \"x\"\n",
+        "refused: points bad-return at 0\n",
+    ),
+    ("version = 2\n", "refused: points bad-version at top\n"),
+];
+
+#[test]
+fn rescue_files(rt: HostRuntime) -> Result<(), Fail> {
+    let alloc = rt.alloc();
+    for (text, line) in POINTS {
+        let mut case = Case::of(&SMALLEST);
+        case.points = Some(text);
+        let outcome = run(alloc, &case)?;
+        assert_eq!(rt; outcome.answer.status, 73);
+        assert!(rt; outcome.report.given() == line.as_bytes(), "{line}");
+    }
+    Ok(())
+}
