@@ -82,11 +82,14 @@ fn file_cut_short(rt: HostRuntime) -> Result<(), Fail> {
 /// The command with a rescue file.
 const RESCUED: [&str; 6] = ["alone", "--seed", "0", "--points", "f", "p"];
 
+// A program that is broken comes before a rescue file that isn't there.
 #[test]
 fn missing_files(rt: HostRuntime) -> Result<(), Fail> {
     let alloc = rt.alloc();
     let none = Vec::new(alloc);
     assert!(rt; refused(alloc, &RESCUED, none, 66, "refused: program unreadable\n")?);
+    let files = vec![in alloc; ("p", Vec::new(alloc))]?;
+    assert!(rt; refused(alloc, &RESCUED, files, 68, "refused: elf too-short at 0\n")?);
     let files = vec![in alloc; ("p", image(alloc, &SMALLEST, None)?)]?;
     assert!(rt; refused(alloc, &RESCUED, files, 66, "refused: points unreadable\n")?);
     let long = vec![in alloc; 0u8; 1_048_577]?;
