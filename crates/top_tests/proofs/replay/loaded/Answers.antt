@@ -1,4 +1,3 @@
-use Rattle.std.proofs.Common.{rules}
 use Rattle.guest_words.proofs.ImageLaws.{loads_of_image}
 use Rattle.top_tests.proofs.replay.loaded.Goals as goal
 
