@@ -10,12 +10,12 @@ use Rattle.std.proofs.lemmas.Bool.Decides.{nat_tests, leb_tells, Decides-and, De
 use Rattle.guest_words.specs.declared.image.Rights.{Rights}
 use Rattle.guest_words.specs.declared.image.Cell.{Cell}
 use Rattle.guest_words.specs.declared.image.Load.{Load}
-use Rattle.guest_words.specs.Space.{Space, with_cell, with_byte, with_bytes}
+use Rattle.guest_words.specs.Space.{Space, zero_cell, with_cell, with_byte, with_bytes}
 use Rattle.guest_words.specs.Image.{IsLoad}
 use Rattle.guest_words.specs.Start.{is_in_pages, is_in_bytes, is_in_stack, stack_cell, filled, loaded_cell, memory_of}
 use Rattle.guest_words.proofs.PageLaws.{contains-range}
 use Rattle.guest_words.proofs.StartMemory.{addresses_tell, get-memory_of, get-memory_of_past}
-use Rattle.guest_words.specs.Blank.{zero_cell, zeros_in, blank_of, blank_in, with_loads}
+use Rattle.guest_words.specs.Blank.{zeros_in, blank_of, blank_in, with_loads}
 
 Decides-leb : (a b : ℕ) → Decides (nat_le a b) (a ≤ b)
 Decides-leb a b = (λ h. grind (arith, nat_tests, h), λ h. grind (arith, nat_tests))

@@ -1,6 +1,5 @@
 -- Frames close where a call is over, and else stay.
 use Rattle.std.proofs.Common.{◌≡◌, ℕ, [], ◌∷◌, refl, replicate, slice_set}
-use Rattle.guest_words.specs.declared.point.Ret.TheVariants.{Code}
 use Rattle.guest_words.specs.declared.hart.Hart.{Hart}
 use Rattle.guest_words.specs.declared.hart.Frame.{Frame}
 use Rattle.guest_words.specs.Harts.{close_frames}
@@ -12,7 +11,7 @@ hart_at pc sp = record (first_hart pc) { regs = slice_set (replicate 32 0) 2 sp 
 
 -- a frame of a point at 0x10010, with a return address and a stack pointer
 abbrev frame : ℕ → ℕ → Frame
-frame ra sp = record { point = record { entry = 0x10010; ret = Code 1 }; ra = ra; sp = sp }
+frame ra sp = record { point = record { entry = 0x10010 }; ra = ra; sp = sp }
 
 -- in the middle of the call nothing closes
 pub stays-inside : close_frames (hart_at 0x10014 0x2000) (frame 0x10004 0x2000 ∷ []) ≡ frame 0x10004 0x2000 ∷ []

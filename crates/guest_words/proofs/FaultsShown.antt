@@ -5,6 +5,7 @@ use Rattle.guest_words.specs.declared.point.PointRef.{PointRef}
 use Rattle.guest_words.specs.declared.fault.FaultName.TheVariants.{FetchRights, FetchMisaligned, StoreRights, AtomicMisaligned}
 use Rattle.guest_words.specs.declared.hart.Hart.{Hart}
 use Rattle.guest_words.specs.declared.inst.Inst.{Inst}
+use Rattle.guest_words.specs.declared.width.Width.TheVariants.{Four, Eight}
 use Rattle.guest_words.specs.declared.act.Act.TheVariants.{Fault, Arrived}
 use Rattle.guest_words.specs.Points.{active_at}
 use Rattle.guest_words.specs.Space.{Space, can_write, can_execute, number_at}
@@ -40,15 +41,15 @@ pub misaligned_jump : (hart : Hart) → jump_to hart 0x10002 ≡ Fault FetchMisa
 misaligned_jump hart = refl
 
 -- an atomic access that is misaligned comes before its rights, for each of the three kinds
-pub misaligned_reserve-first : (m : Space) (hart : Hart) (inst : Inst) → reserve_act m hart inst 0x20002 4 ≡ Fault AtomicMisaligned
+pub misaligned_reserve-first : (m : Space) (hart : Hart) (inst : Inst) → reserve_act m hart inst 0x20002 Four ≡ Fault AtomicMisaligned
 misaligned_reserve-first m hart inst = refl
 
-pub misaligned_conditional-first : (m : Space) (hart : Hart) (inst : Inst) → conditional_act m hart inst 0x20004 8 ≡ Fault AtomicMisaligned
+pub misaligned_conditional-first : (m : Space) (hart : Hart) (inst : Inst) → conditional_act m hart inst 0x20004 Eight ≡ Fault AtomicMisaligned
 misaligned_conditional-first m hart inst = refl
 
-pub misaligned_atomic-first : (m : Space) (hart : Hart) (inst : Inst) → atomic_act m hart inst 0x20001 4 ≡ Fault AtomicMisaligned
+pub misaligned_atomic-first : (m : Space) (hart : Hart) (inst : Inst) → atomic_act m hart inst 0x20001 Four ≡ Fault AtomicMisaligned
 misaligned_atomic-first m hart inst = refl
 
 -- a store-conditional looks at rights before its reservation
-pub conditional_rights-first : (m : Space) (hart : Hart) (inst : Inst) → can_write m 0x20000 4 ≡ false → conditional_act m hart inst 0x20000 4 ≡ Fault StoreRights
+pub conditional_rights-first : (m : Space) (hart : Hart) (inst : Inst) → can_write m 0x20000 4 ≡ false → conditional_act m hart inst 0x20000 Four ≡ Fault StoreRights
 conditional_rights-first m hart inst absent = rw absent refl

@@ -77,6 +77,7 @@ load_is file earlier place kept loads =
         low = grind (arith, nat_tests, bounds.0);
         high = grind (arith, nat_tests, bounds.1);
         readable = write_brings_read (p_flags file place);
+        sealed = all 4 any (lit< tt);
       },
       all 5 any (lit< tt),
       grind (arith, nat_tests, all 6 any (lit< tt)),

@@ -7,6 +7,7 @@ pub mod FaultsShown
 pub mod ImageCases
 pub mod ImageLaws
 pub mod Listing
+pub mod Mapping
 pub mod OneRow
 pub mod PageLaws
 pub mod PointLists

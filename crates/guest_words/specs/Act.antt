@@ -1,6 +1,7 @@
 -- The act of a hart in a state, and the record that fits a request to a device.
-use Rattle.std.specs.Prelude.{ℕ, ℤ, pos, negsuc, Bool, true, false, ◌&&◌, ◌||◌, ◌==◌, nat_le, length, Option, Some, None, nat_eq, slice_get}
+use Rattle.std.specs.Prelude.{ℕ, ℤ, pos, negsuc, Bool, true, false, ◌&&◌, ◌||◌, ◌==◌, nat_lt, nat_le, length, Option, Some, None, nat_eq, slice_get}
 use Rattle.std.specs.Cmp.Lexicographic.{pointwise}
+use Rattle.std.specs.List.{list_all}
 use Rattle.guest_words.specs.declared.point.PointRef.{PointRef}
 use Rattle.guest_words.specs.declared.fault.FaultName.{FaultName}
 use Rattle.guest_words.specs.declared.fault.FaultName.TheVariants.{BlockedInPoint}
@@ -18,8 +19,10 @@ use Rattle.guest_words.specs.declared.act.Act.TheVariants as hart_act_is
 use Rattle.guest_words.specs.Space.{bytes_at, low_bytes}
 use Rattle.guest_words.specs.State.{State, with_hart, with_closed, stored}
 use Rattle.guest_words.specs.HartAct.{hart_act}
-use Rattle.guest_words.specs.Calls.{reply_of, eio}
-use Rattle.guest_words.specs.CallChanges.{facts_of, answered, wakes, queued, exits, clones}
+use Rattle.guest_words.specs.declared.linux.TheConstants.{EIO}
+use Rattle.guest_words.specs.Widths.{bytes_in}
+use Rattle.guest_words.specs.Calls.{reply_of}
+use Rattle.guest_words.specs.CallChanges.{facts_of, answered, wakes, queued, exits, clones, breaks, maps, unmaps}
 
 -- the act of a hart in a state
 pub data StateAct : Type 0 where
@@ -35,68 +38,52 @@ pub data StateAct : Type 0 where
   Absent : StateAct
 
 -- the state with the store of an instruction made, if it has one
-abbrev pub written : Option Write → State → State
-written None s = s
-written (Some write) s = stored write.address (low_bytes write.width write.value) s
+abbrev pub written : State → Option Write → State
+written s None = s
+written s (Some write) =
+    stored s write.address (low_bytes (bytes_in write.width) write.value)
 
--- a change of the state by a call, after which the frames of the hart close
-abbrev pub ordinary : ℕ → State → StateAct
-ordinary h s = Ordinary (with_closed h s)
-
--- a call on a device
-abbrev pub asks : Call → ℕ → StateAct
-asks (request.Read fd place size) asked = Request way.Read fd asked place
-asks (request.Write fd place size) asked = Request way.Write fd asked place
-asks (request.Close fd) asked = Request way.Close fd asked 0
-asks _ asked = Absent
-
-abbrev pub makes_child : Call → ℕ → ℕ → State → StateAct
-makes_child (request.Clone flags stack parent tls child) slot h s =
-    ordinary h (clones flags stack parent tls child slot h s)
-makes_child _ slot h s = Absent
-
-abbrev pub leaves : Call → ℕ → State → StateAct
-leaves (request.Exit code) h s = ordinary h (exits code h s)
-leaves _ h s = Absent
-
-abbrev pub sleeps : Call → ℕ → State → StateAct
-sleeps (request.Wait place value timeout) h s = ordinary h (queued place h s)
-sleeps _ h s = Absent
-
-abbrev pub rouses : Call → ℕ → ℕ → State → StateAct
-rouses (request.Wake place value) most h s = ordinary h (wakes place most h s)
-rouses _ most h s = Absent
+-- a change of the state by an act, after which the frames of the hart close
+abbrev pub ordinary : State → ℕ → StateAct
+ordinary s h = Ordinary (with_closed s h)
 
 -- what a call does, by its reply
-abbrev pub replied : Call → Reply → ℕ → State → StateAct
-replied call (reply.Value value) h s = ordinary h (with_hart (answered value) h s)
-replied call (reply.Port asked) h s = asks call asked
-replied call reply.Gone h s = leaves call h s
-replied call (reply.End code) h s = End code
-replied call reply.Queue h s = sleeps call h s
-replied call (reply.Rouse most) h s = rouses call most h s
-replied call (reply.Child slot) h s = makes_child call slot h s
-replied call reply.Blocked h s = Fault BlockedInPoint
+abbrev pub replied : State → ℕ → Reply → Call → StateAct
+replied s h (reply.Value value) call = ordinary (with_hart s h (answered value)) h
+replied s h (reply.Port asked) (request.Read fd place size) = Request way.Read fd asked place
+replied s h (reply.Port asked) (request.Write fd place size) = Request way.Write fd asked place
+replied s h (reply.Port asked) (request.Close fd) = Request way.Close fd asked 0
+replied s h reply.Gone (request.Exit code) = ordinary (exits s h code) h
+replied s h (reply.End code) call = End code
+replied s h reply.Queue (request.Wait place value timeout) = ordinary (queued s h place) h
+replied s h (reply.Rouse most) (request.Wake place value) = ordinary (wakes s h place most) h
+replied s h (reply.Child slot) (request.Clone flags stack parent tls child) =
+    ordinary (clones s h slot flags stack parent tls child) h
+replied s h (reply.Break to) call = ordinary (breaks s h to) h
+replied s h (reply.Map place count rights) call = ordinary (maps s h place count rights) h
+replied s h (reply.Unmap place count) call = ordinary (unmaps s h place count) h
+replied s h reply.Blocked call = Fault BlockedInPoint
+replied s h _ _ = Absent
 
-unfoldable pub act_of_call : Call → ℕ → State → StateAct
-act_of_call call h s = replied call (reply_of call (facts_of s h call)) h s
+unfoldable pub act_of_call : State → ℕ → Call → StateAct
+act_of_call s h call = replied s h (reply_of call (facts_of s h call)) call
 
 -- the act of a hart alone, as an act in the state
-abbrev pub in_state : Act → ℕ → State → StateAct
-in_state (hart_act_is.Next hart write) h s =
-    ordinary h (written write (with_hart (λ before. hart) h s))
-in_state (hart_act_is.Fault name) h s = Fault name
-in_state (hart_act_is.Call call) h s = act_of_call call h s
-in_state (hart_act_is.Arrived point) h s = Arrival point
+abbrev pub in_state : State → ℕ → Act → StateAct
+in_state s h (hart_act_is.Next hart write) =
+    ordinary (written (with_hart s h (λ before. hart)) write) h
+in_state s h (hart_act_is.Fault name) = Fault name
+in_state s h (hart_act_is.Call call) = act_of_call s h call
+in_state s h (hart_act_is.Arrived point) = Arrival point
 
-abbrev pub act_of_slot : Option Slot → ℕ → State → StateAct
-act_of_slot None h s = Absent
-act_of_slot (Some slot) h s =
-    in_state (hart_act s.memory s.points (length slot.frames) slot.hart) h s
+abbrev pub act_of_slot : State → ℕ → Option Slot → StateAct
+act_of_slot s h None = Absent
+act_of_slot s h (Some slot) =
+    in_state s h (hart_act s.memory s.points (length slot.frames) slot.hart)
 
 -- the act of the hart in a slot
 unfoldable pub act_of : State → ℕ → StateAct
-act_of s h = act_of_slot (slice_get s.slots h) h s
+act_of s h = act_of_slot s h (slice_get s.slots h)
 
 -- records
 
@@ -117,20 +104,22 @@ is_count n answer = is_answer answer (pos n)
 
 -- a device failed: the answer is -EIO, and no byte went
 abbrev pub is_failure : Record → Bool
-is_failure r = is_answer r.answer eio && (length r.bytes == 0)
+is_failure r = is_answer r.answer EIO && (length r.bytes == 0)
 
 -- the bytes and the answer of a record, by its way
-abbrev pub is_served : Way → ℕ → ℕ → Record → State → Bool
-is_served way.Write asked place r s =
+abbrev pub is_served : State → Way → ℕ → ℕ → Record → Bool
+is_served s way.Write asked place r =
     is_failure r
     || (is_count asked r.answer && pointwise nat_eq r.bytes (bytes_at s.memory place asked))
-is_served way.Read asked place r s =
-    is_failure r || (is_count (length r.bytes) r.answer && nat_le (length r.bytes) asked)
-is_served way.Close asked place r s =
+is_served s way.Read asked place r =
+    is_failure r
+    || (is_count (length r.bytes) r.answer && nat_le (length r.bytes) asked
+    && list_all (λ byte. nat_lt byte 256) r.bytes)
+is_served s way.Close asked place r =
     (asked == 0) && is_count 0 r.answer && (length r.bytes == 0)
 
 -- a record fits a request: it is of the same way, descriptor and number of bytes, and so served
-abbrev pub fits : Record → StateAct → State → Bool
-fits r (Request w port asked place) s =
-    is_same_way r.way w && (r.port == port) && (r.asked == asked) && is_served w asked place r s
-fits r _ s = false
+abbrev pub fits : State → StateAct → Record → Bool
+fits s (Request w port asked place) r =
+    is_same_way r.way w && (r.port == port) && (r.asked == asked) && is_served s w asked place r
+fits s _ r = false

@@ -5,11 +5,9 @@ use Rattle.std.specs.FinMap.{get}
 use Rattle.guest_words.specs.declared.image.Rights.{Rights}
 use Rattle.guest_words.specs.declared.image.Cell.{Cell}
 use Rattle.guest_words.specs.declared.image.Load.{Load}
-use Rattle.guest_words.specs.Space.{Space, with_bytes}
+use Rattle.guest_words.specs.declared.limits.TheConstants.{PAGE}
+use Rattle.guest_words.specs.Space.{Space, zero_cell, with_bytes}
 use Rattle.guest_words.specs.Start.{is_in_pages}
-
-abbrev pub zero_cell : Rights → Cell
-zero_cell rights = record { byte = 0; rights = rights }
 
 -- the second memory has what the first has, and these cells at all other addresses
 abbrev pub Brings : (ℕ → Option Cell) → Space → Space → Type 0
@@ -17,12 +15,12 @@ Brings cells old new = (address : ℕ) → get new address ≡ option_or (get ol
 
 -- what a page of zeros has at an address
 abbrev pub zero_in : ℕ → Rights → ℕ → Option Cell
-zero_in page rights address = if page == address / 4096 then Some (zero_cell rights) else None
+zero_in page rights address = if page == address / PAGE then Some (zero_cell rights) else None
 
 -- what so many pages of zeros have at an address
 abbrev pub zeros_in : ℕ → ℕ → Rights → ℕ → Option Cell
 zeros_in page count rights address =
-    if nat_le page (address / 4096) && nat_lt (address / 4096) (page + count)
+    if nat_le page (address / PAGE) && nat_lt (address / PAGE) (page + count)
     then Some (zero_cell rights) else None
 
 abbrev pub blank_of : ℕ → Option Load → Option Cell

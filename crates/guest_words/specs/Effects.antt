@@ -7,6 +7,7 @@ use Rattle.guest_words.specs.Word.{word_of, low_32, signed, signed_32, sx32, sig
 use Rattle.guest_words.specs.Arithmetic.{sum, difference, product, high_signed, high_mixed, high_unsigned, quotient, remainder, quotient_unsigned, remainder_unsigned, quotient_32, remainder_32, quotient_unsigned_32, remainder_unsigned_32, shift_left, shift_right, shift_right_signed, shift_left_32, shift_right_32, shift_right_signed_32, one_if}
 use Rattle.guest_words.specs.declared.class.Class.{Class}
 use Rattle.guest_words.specs.declared.class.Class.TheVariants.{Register, Branch, Jump, Load, Store, Fence, Call, Break, LoadReserved, StoreConditional, Atomic}
+use Rattle.guest_words.specs.declared.width.Width.TheVariants.{One, Two, Four, Eight}
 use Rattle.guest_words.specs.declared.inst.Inst.{Inst}
 use Rattle.guest_words.specs.declared.inst.Op.{Op}
 use Rattle.guest_words.specs.declared.inst.Op.TheVariants.{Lui, Auipc, Jal, Jalr, Beq, Bne, Blt, Bge, Bltu, Bgeu, Lb, Lh, Lw, Ld, Lbu, Lhu, Lwu, Sb, Sh, Sw, Sd, Addi, Slti, Sltiu, Xori, Ori, Andi, Slli, Srli, Srai, Addiw, Slliw, Srliw, Sraiw, Add, Sll, Slt, Sltu, Xor, Srl, Or, And, Sub, Sra, Mul, Mulh, Mulhsu, Mulhu, Div, Divu, Rem, Remu, Addw, Sllw, Srlw, Subw, Sraw, Mulw, Divw, Divuw, Remw, Remuw, Fence, Ecall, Ebreak, LrW, ScW, AmoswapW, AmoaddW, AmoxorW, AmoandW, AmoorW, AmominW, AmomaxW, AmominuW, AmomaxuW, LrD, ScD, AmoswapD, AmoaddD, AmoxorD, AmoandD, AmoorD, AmominD, AmomaxD, AmominuD, AmomaxuD}
@@ -123,7 +124,7 @@ amo_of AmominuD old b = min old b
 amo_of AmomaxuD old b = max old b
 amo_of _ old b = 0
 
--- the class of each row, with widths in bytes
+-- the class of each row
 abbrev pub class_of : Op → Class
 class_of Lui = Register
 class_of Auipc = Register
@@ -135,17 +136,17 @@ class_of Blt = Branch
 class_of Bge = Branch
 class_of Bltu = Branch
 class_of Bgeu = Branch
-class_of Lb = Load 1
-class_of Lh = Load 2
-class_of Lw = Load 4
-class_of Ld = Load 8
-class_of Lbu = Load 1
-class_of Lhu = Load 2
-class_of Lwu = Load 4
-class_of Sb = Store 1
-class_of Sh = Store 2
-class_of Sw = Store 4
-class_of Sd = Store 8
+class_of Lb = Load One
+class_of Lh = Load Two
+class_of Lw = Load Four
+class_of Ld = Load Eight
+class_of Lbu = Load One
+class_of Lhu = Load Two
+class_of Lwu = Load Four
+class_of Sb = Store One
+class_of Sh = Store Two
+class_of Sw = Store Four
+class_of Sd = Store Eight
 class_of Addi = Register
 class_of Slti = Register
 class_of Sltiu = Register
@@ -190,25 +191,25 @@ class_of Remuw = Register
 class_of Fence = Fence
 class_of Ecall = Call
 class_of Ebreak = Break
-class_of LrW = LoadReserved 4
-class_of ScW = StoreConditional 4
-class_of AmoswapW = Atomic 4
-class_of AmoaddW = Atomic 4
-class_of AmoxorW = Atomic 4
-class_of AmoandW = Atomic 4
-class_of AmoorW = Atomic 4
-class_of AmominW = Atomic 4
-class_of AmomaxW = Atomic 4
-class_of AmominuW = Atomic 4
-class_of AmomaxuW = Atomic 4
-class_of LrD = LoadReserved 8
-class_of ScD = StoreConditional 8
-class_of AmoswapD = Atomic 8
-class_of AmoaddD = Atomic 8
-class_of AmoxorD = Atomic 8
-class_of AmoandD = Atomic 8
-class_of AmoorD = Atomic 8
-class_of AmominD = Atomic 8
-class_of AmomaxD = Atomic 8
-class_of AmominuD = Atomic 8
-class_of AmomaxuD = Atomic 8
+class_of LrW = LoadReserved Four
+class_of ScW = StoreConditional Four
+class_of AmoswapW = Atomic Four
+class_of AmoaddW = Atomic Four
+class_of AmoxorW = Atomic Four
+class_of AmoandW = Atomic Four
+class_of AmoorW = Atomic Four
+class_of AmominW = Atomic Four
+class_of AmomaxW = Atomic Four
+class_of AmominuW = Atomic Four
+class_of AmomaxuW = Atomic Four
+class_of LrD = LoadReserved Eight
+class_of ScD = StoreConditional Eight
+class_of AmoswapD = Atomic Eight
+class_of AmoaddD = Atomic Eight
+class_of AmoxorD = Atomic Eight
+class_of AmoandD = Atomic Eight
+class_of AmoorD = Atomic Eight
+class_of AmominD = Atomic Eight
+class_of AmomaxD = Atomic Eight
+class_of AmominuD = Atomic Eight
+class_of AmomaxuD = Atomic Eight

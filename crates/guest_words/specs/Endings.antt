@@ -10,7 +10,7 @@ use Rattle.guest_words.specs.declared.hart.Slot.{Slot}
 use Rattle.guest_words.specs.declared.limits.TheConstants.{RECORD_BYTES}
 use Rattle.guest_words.specs.Harts.{is_ready}
 use Rattle.guest_words.specs.State.{State, frames_at}
-use Rattle.guest_words.specs.Act.{StateAct, Fault, End}
+use Rattle.guest_words.specs.Act.{StateAct, Fault, End, act_of}
 
 -- the bytes of all records
 abbrev pub record_bytes : State → ℕ
@@ -43,17 +43,17 @@ abbrev pub is_end : ℕ → StateAct → Bool
 is_end code (End other) = code == other
 is_end code _ = false
 
-abbrev pub is_at : ℕ → Option Slot → Bool
-is_at pc None = false
-is_at pc (Some slot) = slot.hart.pc == pc
+abbrev pub stands_at : ℕ → Option Slot → Bool
+stands_at pc None = false
+stands_at pc (Some slot) = slot.hart.pc == pc
 
--- the hart in a slot, whose act this is, is about to make this fault
-abbrev pub faults : StateAct → State → ℕ → FaultAt → Bool
-faults act s h fault = is_at fault.pc (slice_get s.slots h) && is_fault fault.name act
+-- the hart in a slot is about to make this fault
+abbrev pub faults : State → ℕ → FaultAt → Bool
+faults s h fault = stands_at fault.pc (slice_get s.slots h) && is_fault fault.name (act_of s h)
 
--- the ending is due, where the acts of the harts are these
-abbrev pub ends_by : (State → ℕ → StateAct) → State → Ending → Bool
-ends_by act s (ending.Exit h code) = is_end code (act s h)
-ends_by act s (ending.Fault h fault) = faults (act s h) s h fault && (frames_at s h == 0)
-ends_by act s ending.Stuck = is_stuck s
-ends_by act s ending.Budget = is_budget_spent s
+-- the ending is due
+abbrev pub ends_by : State → Ending → Bool
+ends_by s (ending.Exit h code) = is_end code (act_of s h)
+ends_by s (ending.Fault h fault) = faults s h fault && (frames_at s h == 0)
+ends_by s ending.Stuck = is_stuck s
+ends_by s ending.Budget = is_budget_spent s

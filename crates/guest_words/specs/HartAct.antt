@@ -1,5 +1,5 @@
 -- The act of one hart: an instruction, by ISA manual chapters RV64I, M and A, or a call.
-use Rattle.std.specs.Prelude.{ℕ, ◌+◌, ◌%◌, ◌^◌, true, not, ◌&&◌, ◌==◌, nat_lt, if◌then◌else◌, List, Option, Some, None}
+use Rattle.std.specs.Prelude.{ℕ, ◌+◌, ◌%◌, true, not, ◌&&◌, ◌==◌, nat_lt, if◌then◌else◌, List, Option, Some, None}
 use Rattle.guest_words.specs.declared.point.Point.{Point}
 use Rattle.guest_words.specs.declared.point.PointRef.{PointRef}
 use Rattle.guest_words.specs.declared.fault.FaultName.TheVariants.{FetchRights, FetchMisaligned, Illegal, LoadRights, StoreRights, AtomicMisaligned, Breakpoint}
@@ -11,9 +11,12 @@ use Rattle.guest_words.specs.declared.act.Act.{Act}
 use Rattle.guest_words.specs.declared.act.Act.TheVariants.{Next, Fault, Call, Arrived}
 use Rattle.guest_words.specs.declared.act.Write.{Write}
 use Rattle.guest_words.specs.declared.limits.TheConstants.{FRAMES}
+use Rattle.guest_words.specs.declared.width.Width.{Width}
 use Rattle.guest_words.specs.Points.{active_at}
 use Rattle.guest_words.specs.Space.{Space, can_read, can_write, can_execute, number_at}
-use Rattle.guest_words.specs.Word.{word_of}
+use Rattle.guest_words.specs.Word.{word_of, wrap}
+use Rattle.guest_words.specs.Widths.{bytes_in}
+use Rattle.guest_words.specs.Arithmetic.{sum}
 use Rattle.guest_words.specs.Instructions.{instruction_of}
 use Rattle.guest_words.specs.Effects.{result_of, is_taken, target_of, amo_of, loaded_of, class_of}
 use Rattle.guest_words.specs.Harts.{reg, with_reg, past, holds}
@@ -28,7 +31,7 @@ second hart inst = reg hart inst.rs2
 
 -- where a load or a store goes: rs1's value and the immediate
 abbrev pub access_place : Hart → Inst → ℕ
-access_place hart inst = (first hart inst + word_of inst.imm) % 2 ^ 64
+access_place hart inst = sum (first hart inst) (word_of inst.imm)
 
 -- the hart behind an instruction that puts a value into rd
 abbrev pub with_result : Hart → Inst → ℕ → Hart
@@ -53,59 +56,59 @@ branch_act hart inst =
 -- a jump and link may arrive at a point
 abbrev pub linked : Hart → Inst → Hart
 linked hart inst =
-    record (with_result hart inst ((hart.pc + 4) % 2 ^ 64)) { arrived = true }
+    record (with_result hart inst (wrap (hart.pc + 4))) { arrived = true }
 
 abbrev pub jump_act : Hart → Inst → Act
 jump_act hart inst = jump_to (linked hart inst) (target_of inst hart.pc (first hart inst))
 
 -- the value that a load, load-reserved or atomic instruction puts into rd
-abbrev pub loaded_at : Space → Inst → ℕ → ℕ → ℕ
-loaded_at m inst place width = loaded_of inst.op (number_at m place width)
+abbrev pub loaded_at : Space → Inst → ℕ → Width → ℕ
+loaded_at m inst place width = loaded_of inst.op (number_at m place (bytes_in width))
 
-abbrev pub load_act : Space → Hart → Inst → ℕ → ℕ → Act
+abbrev pub load_act : Space → Hart → Inst → ℕ → Width → Act
 load_act m hart inst place width =
-    if can_read m place width
+    if can_read m place (bytes_in width)
     then Next (with_result hart inst (loaded_at m inst place width)) None
     else Fault LoadRights
 
-abbrev pub write_of : ℕ → ℕ → ℕ → Option Write
+abbrev pub write_of : ℕ → Width → ℕ → Option Write
 write_of place width value =
     Some (record { address = place; width = width; value = value })
 
-abbrev pub store_act : Space → Hart → Inst → ℕ → ℕ → Act
+abbrev pub store_act : Space → Hart → Inst → ℕ → Width → Act
 store_act m hart inst place width =
-    if can_write m place width
+    if can_write m place (bytes_in width)
     then Next (past hart) (write_of place width (second hart inst))
     else Fault StoreRights
 
-abbrev pub reserved : Hart → ℕ → ℕ → Hart
+abbrev pub reserved : Hart → ℕ → Width → Hart
 reserved hart place width =
     record hart { reservation = Some (record { address = place; width = width }) }
 
-abbrev pub reserve_act : Space → Hart → Inst → ℕ → ℕ → Act
+abbrev pub reserve_act : Space → Hart → Inst → ℕ → Width → Act
 reserve_act m hart inst place width =
-    if not (place % width == 0) then Fault AtomicMisaligned
-    else if not (can_read m place width) then Fault LoadRights
+    if not (place % bytes_in width == 0) then Fault AtomicMisaligned
+    else if not (can_read m place (bytes_in width)) then Fault LoadRights
     else Next (reserved (with_result hart inst (loaded_at m inst place width)) place width) None
 
 -- a store-conditional ends its own hart's reservation; it answers 0 where it stores, else 1
 abbrev pub conditional : Hart → Inst → ℕ → Hart
 conditional hart inst answer = record (with_result hart inst answer) { reservation = None }
 
-abbrev pub conditional_act : Space → Hart → Inst → ℕ → ℕ → Act
+abbrev pub conditional_act : Space → Hart → Inst → ℕ → Width → Act
 conditional_act m hart inst place width =
-    if not (place % width == 0) then Fault AtomicMisaligned
-    else if not (can_write m place width) then Fault StoreRights
+    if not (place % bytes_in width == 0) then Fault AtomicMisaligned
+    else if not (can_write m place (bytes_in width)) then Fault StoreRights
     else if holds hart place width
     then Next (conditional hart inst 0) (write_of place width (second hart inst))
     else Next (conditional hart inst 1) None
 
-abbrev pub atomic_act : Space → Hart → Inst → ℕ → ℕ → Act
+abbrev pub atomic_act : Space → Hart → Inst → ℕ → Width → Act
 atomic_act m hart inst place width =
-    if not (place % width == 0) then Fault AtomicMisaligned
-    else if not (can_write m place width) then Fault StoreRights
+    if not (place % bytes_in width == 0) then Fault AtomicMisaligned
+    else if not (can_write m place (bytes_in width)) then Fault StoreRights
     else Next (with_result hart inst (loaded_at m inst place width))
-    (write_of place width (amo_of inst.op (number_at m place width) (second hart inst)))
+    (write_of place width (amo_of inst.op (number_at m place (bytes_in width)) (second hart inst)))
 
 -- the act of an instruction, by its class
 abbrev pub act_of_class : Class → Space → Hart → Inst → Act

@@ -8,6 +8,7 @@ use Rattle.guest_words.specs.declared.image.Image.{Image}
 use Rattle.guest_words.specs.declared.elf_fault.ElfFault.{ElfFault}
 use Rattle.guest_words.specs.declared.elf_fault.ElfFault.TheVariants.{TooShort, Magic, Class, ByteOrder, Version, FileType, Machine, Flags, HeaderTable, HeadersOutside, Dynamic, SegmentSizes, SegmentOutside, SegmentPlace, WriteExecute, PageClash, Large, Entry}
 use Rattle.guest_words.specs.declared.limits.TheConstants.{PAGE, PROGRAM_HEADERS, LOAD_PAGES, FIRST_ADDRESS, LOADS_END}
+use Rattle.guest_words.specs.declared.elf.TheConstants.{PT_LOAD, PT_DYNAMIC, PT_INTERP}
 use Rattle.guest_words.specs.Rules.{Rule, rule, first_broken, IsKept}
 use Rattle.guest_words.specs.ElfFields.{number, e_type, e_machine, e_version, e_entry, e_phoff, e_flags, e_phentsize, e_phnum, header_place, p_type, p_flags, p_offset, p_vaddr, p_filesz, p_memsz}
 
@@ -21,7 +22,7 @@ rights_of flags = record {
 
 -- a program header is a load of the image where it has type 1 and bytes in memory
 abbrev pub is_load : List ℕ → ℕ → Bool
-is_load file place = (p_type file place == 1) && not (p_memsz file place == 0)
+is_load file place = (p_type file place == PT_LOAD) && not (p_memsz file place == 0)
 
 -- the load that a program header describes
 abbrev pub load_at : List ℕ → ℕ → Load
@@ -120,8 +121,8 @@ load_rules file earlier place =
 -- the rules on a program header of any type
 abbrev pub segment_rules : List ℕ → ℕ → List (Rule ElfFault)
 segment_rules file place =
-    rule ((p_type file place == 2) || (p_type file place == 3)) Dynamic place
-    ∷ rule ((p_type file place == 1) && nat_lt (p_memsz file place) (p_filesz file place))
+    rule ((p_type file place == PT_DYNAMIC) || (p_type file place == PT_INTERP)) Dynamic place
+    ∷ rule ((p_type file place == PT_LOAD) && nat_lt (p_memsz file place) (p_filesz file place))
     SegmentSizes (place + 32)
     ∷ []
 
@@ -165,6 +166,7 @@ pub record IsLoad (load : Load) : Type 0 where
   pub low : FIRST_ADDRESS ≤ load.address
   pub high : load.address + load.size ≤ LOADS_END
   pub readable : IsTrue load.rights.write → IsTrue load.rights.read
+  pub sealed : IsFalse (load.rights.write && load.rights.exec)
 
 -- what the loads of an image keep together: no two clash, and their pages are within the limit
 pub record IsLoadList (loads : List Load) : Type 0 where

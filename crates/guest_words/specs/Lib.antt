@@ -16,6 +16,7 @@ pub mod Names
 pub mod Points
 pub mod Rules
 pub mod Space
+pub mod Widths
 pub mod Start
 pub mod State
 pub mod Word

@@ -1,12 +1,14 @@
 -- Memory: a finite map from addresses to bytes with rights. An address that it lacks is in no page.
-use Rattle.std.specs.Prelude.{ℕ, zero, suc, ◌+◌, ◌*◌, ◌/◌, ◌%◌, ◌^◌, Bool, true, false, ◌&&◌, nat_le, List, [], ◌∷◌, Option, Some, None}
+use Rattle.std.specs.Prelude.{ℕ, zero, suc, ◌+◌, ◌-◌, ◌*◌, ◌/◌, ◌%◌, ◌^◌, Bool, true, false, not, ◌&&◌, nat_le, nat_lt, List, [], ◌∷◌, map, Option, Some, None}
+use Rattle.std.specs.List.{list_all, range_with_len}
 use Rattle.std.specs.Ordering.{nat_cmp}
-use Rattle.std.specs.FinMap as map
+use Rattle.std.specs.FinMap as finite
 use Rattle.guest_words.specs.declared.image.Rights.{Rights}
 use Rattle.guest_words.specs.declared.image.Cell.{Cell}
+use Rattle.guest_words.specs.declared.limits.TheConstants.{PAGE}
 
 abbrev pub Space : Type 0
-Space = map.FinMap nat_cmp Cell
+Space = finite.FinMap nat_cmp Cell
 
 -- a byte has a right; one in no page has none
 abbrev pub has_right : (Rights → Bool) → Option Cell → Bool
@@ -15,9 +17,8 @@ has_right right (Some cell) = right cell.rights
 
 -- each of so many bytes from an address on has a right
 unfoldable pub each_has : (Rights → Bool) → Space → ℕ → ℕ → Bool
-each_has right m from zero = true
-each_has right m from (suc size) =
-    has_right right (map.get m from) && each_has right m (from + 1) size
+each_has right m from size =
+    list_all (λ address. has_right right (finite.get m address)) (range_with_len from size)
 
 -- a range has a right where each byte has it; a range that passes 2^64 lacks it
 abbrev pub range_has : (Rights → Bool) → Space → ℕ → ℕ → Bool
@@ -39,8 +40,7 @@ byte_of (Some cell) = cell.byte
 
 -- so many bytes from an address on
 unfoldable pub bytes_at : Space → ℕ → ℕ → List ℕ
-bytes_at m from zero = []
-bytes_at m from (suc size) = byte_of (map.get m from) ∷ bytes_at m (from + 1) size
+bytes_at m from size = map (λ address. byte_of (finite.get m address)) (range_with_len from size)
 
 -- the number that bytes spell, the least significant first
 abbrev pub number_of : List ℕ → ℕ
@@ -60,11 +60,11 @@ low_bytes (suc width) value = (value % 256) ∷ low_bytes width (value / 256)
 abbrev pub with_cell : Space → ℕ → ℕ → Option Cell → Space
 with_cell m address byte None = m
 with_cell m address byte (Some cell) =
-    map.insert m address (record { byte = byte; rights = cell.rights })
+    finite.insert m address (record { byte = byte; rights = cell.rights })
 
 -- memory with another byte at an address; a byte in no page stays out
 unfoldable pub with_byte : Space → ℕ → ℕ → Space
-with_byte m address byte = with_cell m address byte (map.get m address)
+with_byte m address byte = with_cell m address byte (finite.get m address)
 
 -- memory with these bytes from an address on
 unfoldable pub with_bytes : Space → ℕ → List ℕ → Space
@@ -74,3 +74,27 @@ with_bytes m from (byte ∷ bytes) = with_bytes (with_byte m from byte) (from + 
 -- memory with the low bytes of a number at an address
 abbrev pub with_number : Space → ℕ → ℕ → ℕ → Space
 with_number m from width value = with_bytes m from (low_bytes width value)
+
+-- whole pages
+
+-- the least multiple of a page's size that is no less
+abbrev pub page_up : ℕ → ℕ
+page_up n = (n + (PAGE - 1)) / PAGE * PAGE
+
+-- how many pages so many bytes take
+abbrev pub pages_in : ℕ → ℕ
+pages_in size = (size + (PAGE - 1)) / PAGE
+
+abbrev pub zero_cell : Rights → Cell
+zero_cell rights = record { byte = 0; rights = rights }
+
+-- memory with so many zeros from an address on, with these rights
+unfoldable pub with_zeros : Space → ℕ → ℕ → Rights → Space
+with_zeros m from zero rights = m
+with_zeros m from (suc size) rights =
+    finite.insert (with_zeros m (from + 1) size rights) from (zero_cell rights)
+
+-- memory without so many bytes from an address on
+unfoldable pub without : Space → ℕ → ℕ → Space
+without m from size =
+    finite.retain_keys m (λ address. not (nat_le from address && nat_lt address (from + size)))

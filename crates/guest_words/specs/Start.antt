@@ -1,5 +1,5 @@
 -- The start of a run: memory, the first hart, and the empty slots.
-use Rattle.std.specs.Prelude.{ℕ, zero, suc, ◌+◌, ◌-◌, ◌/◌, Bool, true, false, ◌&&◌, nat_lt, nat_le, if◌then◌else◌, List, [], ◌∷◌, length, Option, Some, None, slice_index, slice_set, replicate, find}
+use Rattle.std.specs.Prelude.{ℕ, zero, suc, ◌+◌, ◌-◌, ◌/◌, max, Bool, true, false, ◌&&◌, nat_lt, nat_le, if◌then◌else◌, List, [], ◌∷◌, length, Option, Some, None, slice_index, slice_set, replicate, find}
 use Rattle.std.specs.FinMap as map
 use Rattle.guest_words.specs.declared.image.Cell.{Cell}
 use Rattle.guest_words.specs.declared.image.Load.{Load}
@@ -8,9 +8,10 @@ use Rattle.guest_words.specs.declared.point.Point.{Point}
 use Rattle.guest_words.specs.declared.hart.Hart.{Hart}
 use Rattle.guest_words.specs.declared.hart.HartState.TheVariants.{Ready, Empty}
 use Rattle.guest_words.specs.declared.hart.Slot.{Slot}
+use Rattle.guest_words.specs.declared.abi.TheConstants.{SP as STACK_REGISTER}
 use Rattle.guest_words.specs.declared.limits.TheConstants.{PAGE, STACK_FROM, STACK_END, STACK_POINTER}
 use Rattle.guest_words.specs.Image.{pages_of, contains}
-use Rattle.guest_words.specs.Space.{Space}
+use Rattle.guest_words.specs.Space.{Space, page_up}
 use Rattle.guest_words.specs.State.{State}
 
 -- an address lies in a page of a load
@@ -78,7 +79,7 @@ abbrev pub first_hart : ℕ → Hart
 first_hart entry =
     record empty_hart {
       pc = entry;
-      regs = slice_set (replicate 32 0) 2 STACK_POINTER;
+      regs = slice_set (replicate 32 0) STACK_REGISTER STACK_POINTER;
       state = Ready;
       tid = 1;
     }
@@ -86,11 +87,22 @@ first_hart entry =
 abbrev pub slot_of : Hart → Slot
 slot_of hart = record { hart = hart; frames = [] }
 
+-- the first hart is in slot 0, all others are empty
+abbrev pub start_slots : ℕ → ℕ → List Slot
+start_slots entry harts = slot_of (first_hart entry) ∷ replicate (harts - 1) (slot_of empty_hart)
+
+-- the heap begins at the first page that no load passes
+abbrev pub low_break : List Load → ℕ
+low_break [] = 0
+low_break (load ∷ loads) = max (page_up (load.address + load.size)) (low_break loads)
+
 abbrev pub start_of : Image → List Point → ℕ → ℕ → ℕ → State
 start_of image points harts ports budget =
     record {
       memory = memory_of image.loads;
-      slots = slot_of (first_hart image.entry) ∷ replicate (harts - 1) (slot_of empty_hart);
+      low = low_break image.loads;
+      brk = low_break image.loads;
+      slots = start_slots image.entry harts;
       waiting = [];
       next_tid = 2;
       records = [];

@@ -15,6 +15,9 @@ use Rattle.guest_words.specs.Harts.{touched, unreserved, close_frames, opened}
 
 pub record State : Type 0 where
   pub memory : Space
+  -- where the heap begins, and the break, its end
+  pub low : ℕ
+  pub brk : ℕ
   -- the harts by slot, each with its frames
   pub slots : List Slot
   -- the harts that wait, the longest waiting first
@@ -25,8 +28,9 @@ pub record State : Type 0 where
   -- the instructions and device calls so far
   pub steps : ℕ
   pub ending : Option Ending
-  -- what was there at the start and stays: points, number of ports, budget in steps
+  -- the points, each with the rescues that are left to it
   pub points : List Point
+  -- what was there at the start and stays: number of ports, budget in steps
   pub ports : ℕ
   pub budget : ℕ
 
@@ -51,24 +55,24 @@ abbrev pub on_each : (Hart → Hart) → List Slot → List Slot
 on_each f slots = map (on_hart f) slots
 
 -- the state with a change of the hart in a slot
-abbrev pub with_hart : (Hart → Hart) → ℕ → State → State
-with_hart f h s = record s { slots = changed (on_hart f) h s.slots }
+abbrev pub with_hart : State → ℕ → (Hart → Hart) → State
+with_hart s h f = record s { slots = changed (on_hart f) h s.slots }
 
 -- the state with the frames of a hart closed whose calls are over
-abbrev pub with_closed : ℕ → State → State
-with_closed h s = record s { slots = changed closed h s.slots }
+abbrev pub with_closed : State → ℕ → State
+with_closed s h = record s { slots = changed closed h s.slots }
 
 -- the state with these bytes stored from an address on, which ends the reservations they touch
-abbrev pub stored : ℕ → List ℕ → State → State
-stored from bytes s =
+abbrev pub stored : State → ℕ → List ℕ → State
+stored s from bytes =
     record s {
       memory = with_bytes s.memory from bytes;
       slots = on_each (touched from (length bytes)) s.slots;
     }
 
 -- a hart enters a point: its frame opens, and no hart keeps a reservation
-unfoldable pub enter : ℕ → PointRef → State → State
-enter h point s = record s { slots = on_each unreserved (changed (opened point) h s.slots) }
+unfoldable pub enter : State → ℕ → PointRef → State
+enter s h point = record s { slots = on_each unreserved (changed (opened point) h s.slots) }
 
 -- the number of frames that a hart has open
 abbrev pub frame_count : Option Slot → ℕ

@@ -2,13 +2,13 @@ use crate::call::Request;
 use crate::fault::FaultName;
 use crate::hart::Hart;
 use crate::point::PointRef;
+use crate::width::Width;
 
 /// A store to memory.
 #[derive(Clone, Copy, Debug, PartialEq, Eq)]
 pub struct Write {
     pub address: u64,
-    /// 1, 2, 4 or 8 bytes.
-    pub width: u8,
+    pub width: Width,
     /// The bytes, the least significant first.
     pub value: u64,
 }

@@ -1,3 +1,5 @@
+use crate::image::Rights;
+
 /// A call of a hart, with the whole argument registers that it reads.
 #[derive(Clone, Copy, Debug, PartialEq, Eq)]
 pub enum Request {
@@ -36,6 +38,18 @@ pub enum Request {
         tls: u64,
         child: u64,
     },
+    Break {
+        to: u64,
+    },
+    Map {
+        length: u64,
+        prot: u64,
+        flags: u64,
+    },
+    Unmap {
+        place: u64,
+        length: u64,
+    },
     Yield,
     Tid,
     /// A call that isn't served.
@@ -62,6 +76,14 @@ pub struct Facts {
     pub tid: u32,
     /// Whether the hart has a frame open.
     pub frames: bool,
+    /// Where the heap begins.
+    pub low: u64,
+    /// The break: the end of the heap.
+    pub brk: u64,
+    /// How many pages are mapped.
+    pub mapped: u64,
+    /// Where the pages that a map asks for fit; None for other calls too.
+    pub place: Option<u64>,
 }
 
 /// What a call does.
@@ -70,17 +92,40 @@ pub enum Reply {
     /// It answers this value, or an error number with a minus sign.
     Value(i64),
     /// It goes to the device, for so many bytes.
-    Port { asked: u32 },
+    Port {
+        asked: u32,
+    },
     /// The hart exits, and others go on.
     Gone,
     /// The run ends with this code.
-    End { code: u8 },
+    End {
+        code: u8,
+    },
     /// The hart waits.
     Queue,
     /// At most so many waiters are woken.
-    Rouse { most: u32 },
+    Rouse {
+        most: u32,
+    },
     /// A new hart begins in this slot.
-    Child { slot: u8 },
+    Child {
+        slot: u8,
+    },
+    /// The break moves.
+    Break {
+        to: u64,
+    },
+    /// So many pages of zeros come, with these rights.
+    Map {
+        place: u64,
+        count: u64,
+        rights: Rights,
+    },
+    /// So many pages go.
+    Unmap {
+        place: u64,
+        count: u64,
+    },
     /// The hart would wait under a rescue point, which is a fault.
     Blocked,
 }

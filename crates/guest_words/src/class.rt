@@ -2,8 +2,9 @@ ghost use Rattle.guest_words.specs.Effects.{class_of};
 ghost use Rattle.std.specs.Prelude.{◌≡◌};
 
 use crate::inst::Op;
+use crate::width::Width;
 
-/// What an instruction does, apart from the values. A width is in bytes: 1, 2, 4 or 8.
+/// What an instruction does, apart from the values.
 #[derive(Clone, Copy, Debug, PartialEq, Eq)]
 pub enum Class {
     /// Puts a value formed from pc, registers and immediate into rd.
@@ -13,9 +14,9 @@ pub enum Class {
     /// Jumps, and puts the address of the next instruction into rd.
     Jump,
     /// Reads memory into rd.
-    Load { width: u8 },
+    Load { width: Width },
     /// Writes a register to memory.
-    Store { width: u8 },
+    Store { width: Width },
     /// Orders accesses to memory, which one step at a time does already.
     Fence,
     /// Asks for what a0 to a7 say.
@@ -23,11 +24,11 @@ pub enum Class {
     /// Stops at a debugger's breakpoint.
     Break,
     /// Reads memory into rd and reserves it.
-    LoadReserved { width: u8 },
+    LoadReserved { width: Width },
     /// Writes memory where its reservation still holds.
-    StoreConditional { width: u8 },
+    StoreConditional { width: Width },
     /// Reads memory into rd and stores what the old value and a register make.
-    Atomic { width: u8 },
+    Atomic { width: Width },
 }
 
 impl Op {
@@ -38,19 +39,23 @@ impl Op {
         match self {
             Op::Jal | Op::Jalr => Class::Jump,
             Op::Beq | Op::Bne | Op::Blt | Op::Bge | Op::Bltu | Op::Bgeu => Class::Branch,
-            Op::Lb | Op::Lbu => Class::Load { width: 1 },
-            Op::Lh | Op::Lhu => Class::Load { width: 2 },
-            Op::Lw | Op::Lwu => Class::Load { width: 4 },
-            Op::Ld => Class::Load { width: 8 },
-            Op::Sb => Class::Store { width: 1 },
-            Op::Sh => Class::Store { width: 2 },
-            Op::Sw => Class::Store { width: 4 },
-            Op::Sd => Class::Store { width: 8 },
+            Op::Lb | Op::Lbu => Class::Load { width: Width::One },
+            Op::Lh | Op::Lhu => Class::Load { width: Width::Two },
+            Op::Lw | Op::Lwu => Class::Load { width: Width::Four },
+            Op::Ld => Class::Load {
+                width: Width::Eight,
+            },
+            Op::Sb => Class::Store { width: Width::One },
+            Op::Sh => Class::Store { width: Width::Two },
+            Op::Sw => Class::Store { width: Width::Four },
+            Op::Sd => Class::Store {
+                width: Width::Eight,
+            },
             Op::Fence => Class::Fence,
             Op::Ecall => Class::Call,
             Op::Ebreak => Class::Break,
-            Op::LrW => Class::LoadReserved { width: 4 },
-            Op::ScW => Class::StoreConditional { width: 4 },
+            Op::LrW => Class::LoadReserved { width: Width::Four },
+            Op::ScW => Class::StoreConditional { width: Width::Four },
             Op::AmoswapW
             | Op::AmoaddW
             | Op::AmoxorW
@@ -59,9 +64,13 @@ impl Op {
             | Op::AmominW
             | Op::AmomaxW
             | Op::AmominuW
-            | Op::AmomaxuW => Class::Atomic { width: 4 },
-            Op::LrD => Class::LoadReserved { width: 8 },
-            Op::ScD => Class::StoreConditional { width: 8 },
+            | Op::AmomaxuW => Class::Atomic { width: Width::Four },
+            Op::LrD => Class::LoadReserved {
+                width: Width::Eight,
+            },
+            Op::ScD => Class::StoreConditional {
+                width: Width::Eight,
+            },
             Op::AmoswapD
             | Op::AmoaddD
             | Op::AmoxorD
@@ -70,7 +79,9 @@ impl Op {
             | Op::AmominD
             | Op::AmomaxD
             | Op::AmominuD
-            | Op::AmomaxuD => Class::Atomic { width: 8 },
+            | Op::AmomaxuD => Class::Atomic {
+                width: Width::Eight,
+            },
             _ => Class::Register,
         }
     }

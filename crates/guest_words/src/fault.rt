@@ -1,5 +1,5 @@
-ghost use Rattle.std.specs.Prelude.{◌≡◌};
-ghost use Rattle.guest_words.specs.Names.{fault_name};
+ghost use Rattle.std.specs.Prelude.{◌≡◌, ◌<◌};
+ghost use Rattle.guest_words.specs.Names.{fault_name, order_of};
 
 /// Why an instruction can't be carried out.
 #[derive(Clone, Copy, Debug, PartialEq, Eq)]
@@ -36,6 +36,23 @@ impl FaultName {
             FaultName::AtomicMisaligned => "atomic-misaligned",
             FaultName::Breakpoint => "breakpoint",
             FaultName::BlockedInPoint => "blocked-in-point",
+        }
+    }
+
+    /// The place of its code among the codes of a point: the order of the faults, from 0.
+    pub fn order(self) -> usize
+        ensures value { result ≡ order_of self }
+        ensures within { result < 8 }
+    {
+        match self {
+            FaultName::FetchRights => 0,
+            FaultName::FetchMisaligned => 1,
+            FaultName::Illegal => 2,
+            FaultName::LoadRights => 3,
+            FaultName::StoreRights => 4,
+            FaultName::AtomicMisaligned => 5,
+            FaultName::Breakpoint => 6,
+            FaultName::BlockedInPoint => 7,
         }
     }
 }

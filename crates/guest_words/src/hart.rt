@@ -3,6 +3,7 @@ ghost use Rattle.std.specs.Prelude.{◌≡◌, IfOk};
 use crate::frames::Frames;
 use crate::memory_want::MemoryWant;
 use crate::point::PointRef;
+use crate::width::Width;
 use std::alloc::Global;
 
 /// Whether a hart may go on.
@@ -22,7 +23,7 @@ pub enum HartState {
 pub struct Reserved {
     pub address: u64,
     /// 4 or 8 bytes.
-    pub width: u8,
+    pub width: Width,
 }
 
 /// A hardware thread.
@@ -38,6 +39,19 @@ pub struct Hart {
     pub tid: u32,
     /// Where its exit clears a word and wakes a waiter, or 0.
     pub clear: u64,
+}
+
+impl Hart {
+    /// What a slot holds before its first hart.
+    pub const EMPTY: Hart = Hart {
+        pc: 0,
+        regs: [0; 32],
+        arrived: false,
+        reservation: None,
+        state: HartState::Empty,
+        tid: 0,
+        clear: 0,
+    };
 }
 
 /// A rescue point that a hart is under: the return address and the stack at its entry.

@@ -18,6 +18,16 @@ pub struct Cell {
     pub rights: Rights,
 }
 
+/// A page of memory that is kept apart from it.
+#[derive(Drop)]
+pub struct Page {
+    /// The guest address of its first byte, a multiple of 4,096.
+    pub from: u64,
+    pub rights: Rights,
+    /// Its 4,096 bytes.
+    pub bytes: Bytes,
+}
+
 /// A loadable segment of a file.
 #[derive(Drop)]
 pub struct Load {

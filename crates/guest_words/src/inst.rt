@@ -97,5 +97,5 @@ pub struct Inst {
     pub rd: u8,
     pub rs1: u8,
     pub rs2: u8,
-    pub imm: i64,
+    pub imm: i32,
 }

@@ -22,6 +22,9 @@ pub const FRAMES: usize = 16;
 /// Greatest number of harts.
 pub const HARTS: u8 = 64;
 
+/// Greatest number of rescues that a point can be limited to.
+pub const RESCUES: u32 = 1_000_000;
+
 /// Greatest budget, in steps.
 pub const BUDGET: u64 = 20_000_000;
 
@@ -45,3 +48,15 @@ pub const STACK_END: u64 = 0x40_0000_0000;
 
 /// The stack pointer of the first hart.
 pub const STACK_POINTER: u64 = 0x3f_ffff_ffc0;
+
+/// The heap reaches at most so many bytes above the low break, 64 MiB.
+pub const HEAP_BYTES: u64 = 67_108_864;
+
+/// The first address of the area of mapped pages.
+pub const MAP_FROM: u64 = 0x3f_8000_0000;
+
+/// The first address past the area of mapped pages.
+pub const MAP_END: u64 = 0x3f_c000_0000;
+
+/// Greatest number of mapped pages, 64 MiB.
+pub const MAP_PAGES: u64 = 16_384;

@@ -1,8 +1,9 @@
 ghost use Rattle.std.specs.Prelude.{◌≡◌, IfOk};
-ghost use Rattle.guest_words.specs.Points.{active_at, IsPointList};
+ghost use Rattle.guest_words.specs.Points.{active_at, code_of, has_loose, spent, spent_at, IsPointList};
 
+use crate::fault::FaultName;
 use crate::memory_want::MemoryWant;
-use crate::point::{Point, PointRef};
+use crate::point::{Point, PointRef, Ret};
 use std::alloc::Global;
 use std::marker::Model;
 
@@ -51,6 +52,32 @@ impl Points {
             .map(|p| p.reference())
     }
 
+    /// What a call of the point with this entry returns for a fault; Void where there is no point.
+    pub fn code(&self, entry: u64, name: FaultName) -> Ret
+        ensures value { result ≡ code_of self.now entry name }
+    {
+        self.items
+            .iter()
+            .find(|p| p.entry == entry)
+            .map(|p| p.code(name))
+            .unwrap_or(Ret::Void)
+    }
+
+    /// Takes one from the rescues that are left to the point with this entry, if they are counted
+    /// and one is. Takes no memory.
+    pub fn spend(&mut self, entry: u64)
+        ensures value { self.new ≡ spent self.old entry }
+    {
+        spend_at(&mut self.items, entry);
+    }
+
+    /// Whether a point is loose. Takes no memory.
+    pub fn has_loose(&self) -> bool
+        ensures value { result ≡ has_loose self.now }
+    {
+        self.items.iter().any(|p| p.is_loose())
+    }
+
     /// An equal list.
     pub fn copy(&self, alloc: Global) -> Result<Points, MemoryWant>
         ensures ok { IfOk result (λ points. points ≡ self.now) }
@@ -58,5 +85,21 @@ impl Points {
         Ok(Points {
             items: self.items.as_slice().to_vec(alloc)?,
         })
+    }
+}
+
+fn spend_at(points: &mut Vec<Point>, entry: u64)
+    ensures value { points.new.items ≡ spent points.old.items entry }
+{
+    for point in points.iter_mut() {
+        spend_one(point, entry);
+    }
+}
+
+fn spend_one(point: &mut Point, entry: u64)
+    ensures value { point.new ≡ spent_at entry point.old }
+{
+    if point.entry == entry {
+        point.spend();
     }
 }

@@ -1,14 +1,11 @@
 use crate::{
     Bytes, Class, ElfFault, FaultName, Frame, Frames, Hart, HartState, Kind, Load, Loads,
-    MemoryWant, Name, Op, Point, PointRef, Points, Record, Ret, Rights, Slot, Way,
+    MemoryWant, Name, Op, Point, PointRef, Points, Record, Ret, Rights, Slot, Way, Width,
 };
 use std::alloc::Global;
 use std::test::Fail;
 
-const POINT: PointRef = PointRef {
-    entry: 0x10010,
-    ret: Ret::Code(7),
-};
+const POINT: PointRef = PointRef { entry: 0x10010 };
 
 const FRAME: Frame = Frame {
     point: POINT,
@@ -69,12 +66,9 @@ fn frames_open_and_close(rt: HostRuntime) -> Result<(), Fail> {
 fn a_slot_is_copied(rt: HostRuntime) -> Result<(), Fail> {
     let hart = Hart {
         pc: 0x10000,
-        regs: [0; 32],
-        arrived: false,
-        reservation: None,
         state: HartState::Ready,
         tid: 1,
-        clear: 0,
+        ..Hart::EMPTY
     };
     let mut frames = Frames::new(rt.alloc());
     frames.push(FRAME)?;
@@ -99,17 +93,19 @@ fn a_record_is_copied(rt: HostRuntime) -> Result<(), Fail> {
 }
 
 fn two_points(alloc: Global) -> Result<Points, MemoryWant> {
-    let ret = Ret::Code(7);
+    let codes = [Ret::Code(7); 8];
     let mut items = Vec::new(alloc);
     items.push(Point {
         entry: 0x10000,
-        ret,
+        codes,
         kind: Kind::Off,
+        left: None,
     })?;
     items.push(Point {
         entry: 0x10010,
-        ret,
+        codes,
         kind: Kind::Blocking,
+        left: Some(1),
     })?;
     Ok(Points::of(items))
 }
@@ -125,8 +121,18 @@ fn an_active_point_is_found(rt: HostRuntime) -> Result<(), Fail> {
 }
 
 #[test]
+fn a_point_is_spent(rt: HostRuntime) -> Result<(), Fail> {
+    let mut points = two_points(rt.alloc())?;
+    points.spend(0x10010);
+    assert!(rt; points.active_at(0x10010) == None);
+    assert!(rt; points.code(0x10010, FaultName::Illegal) == Ret::Code(7));
+    assert!(rt; !points.has_loose());
+    Ok(())
+}
+
+#[test]
 fn names_are_printed(rt: HostRuntime) {
     assert!(rt; FaultName::BlockedInPoint.name() == "blocked-in-point");
     assert!(rt; ElfFault::FileType.name() == "type");
-    assert!(rt; Op::Lhu.class() == Class::Load { width: 2 });
+    assert!(rt; Op::Lhu.class() == Class::Load { width: Width::Two });
 }

@@ -1,4 +1,4 @@
-use Rattle.std.proofs.Common.{◌≢◌, ℕ, ◌<◌, [], ◌∷◌, ◌++◌, subst, sym, ◌∙◌, ap, arith, length, get_or, zero, suc}
+use Rattle.std.proofs.Common.{◌≢◌, ℕ, ◌<◌, [], ◌∷◌, ◌++◌, subst, sym, ◌∙◌, ap, arith, length, get_or, zero, suc, replicate, Some, None}
 use Rattle.guest_words.specs.declared.point.Point.{Point}
 use Rattle.guest_words.specs.declared.point.Ret.TheVariants.{Code}
 use Rattle.guest_words.specs.declared.point.Kind.TheVariants.{Off, Blocking}
@@ -20,10 +20,10 @@ apart : ◌≢◌ {A = ℕ} 65536 65552
 apart same = omega (arith, same)
 
 abbrev off : Point
-off = record { entry = 65536; ret = Code 7; kind = Off }
+off = record { entry = 65536; codes = replicate 8 (Code 7); kind = Off; left = None }
 
 abbrev on : Point
-on = record { entry = 65552; ret = Code 7; kind = Blocking }
+on = record { entry = 65552; codes = replicate 8 (Code 7); kind = Blocking; left = Some 1 }
 
 pub of-requires : goal.of-requires
 of-requires c =
