@@ -1,3 +1,4 @@
+pub mod AreaLaws
 pub mod Blanks
 pub mod Bytewise
 pub mod CellRuns
@@ -10,9 +11,11 @@ pub mod Listing
 pub mod Mapping
 pub mod OneRow
 pub mod PageLaws
+pub mod PagesShown
 pub mod PointLists
 pub mod Registers
 pub mod RuleLaws
+pub mod SpaceLaws
 pub mod StartMemory
 pub mod TableShown
 pub mod WordsShown

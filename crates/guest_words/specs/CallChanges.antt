@@ -63,8 +63,11 @@ tid_of None = 0
 tid_of (Some slot) = slot.hart.tid
 
 -- the numbers of the pages of the area of mapped pages
+unfoldable pub area_pages : ℕ
+area_pages = (MAP_END - MAP_FROM) / PAGE
+
 unfoldable pub area : List ℕ
-area = range_with_len (MAP_FROM / PAGE) ((MAP_END - MAP_FROM) / PAGE)
+area = range_with_len (MAP_FROM / PAGE) area_pages
 
 abbrev pub has_page : Space → ℕ → Bool
 has_page m page = contains_key m (PAGE * page)
