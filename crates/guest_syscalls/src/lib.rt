@@ -1,7 +1,6 @@
 //! Calls of a guest, pure: what a hart asks for, and what the answer is.
 #![tactic(auto)]
 
-mod errors;
 mod flags;
 mod replies;
 mod requests;

@@ -1,14 +1,15 @@
 -- Breaks that move, and pages that are mapped and unmapped, with the numbers that calls answer.
-use Rattle.std.proofs.Common.{◌≡◌, ℕ, zero, suc, ◌+◌, ◌*◌, ◌<◌, pos, Bool, true, false, not, ◌&&◌, nat_le, Option, Some, None, refl, sym, ap, ◌∙◌, subst, arith, ◌≤◌, if◌then◌else◌}
+use Rattle.std.proofs.Common.{◌≡◌, ℕ, zero, suc, ◌+◌, ◌-◌, ◌*◌, ◌<◌, pos, Bool, true, false, not, ◌&&◌, nat_le, Option, Some, None, refl, sym, ap, ◌∙◌, subst, arith, ◌≤◌, if◌then◌else◌}
 use Rattle.guest_words.specs.declared.call.Facts.{Facts}
 use Rattle.guest_words.specs.declared.call.Request.TheVariants.{Break, Map, Unmap}
 use Rattle.guest_words.specs.declared.call.Reply.TheVariants as reply
 use Rattle.guest_words.specs.declared.linux.TheConstants.{EINVAL, ENOMEM}
 use Rattle.guest_words.specs.declared.image.Rights.{Rights}
 use Rattle.guest_words.specs.Calls.{reply_of}
-use Rattle.std.specs.FinMap.{get}
+use Rattle.std.specs.Cmp.{nat_cmp_total}
+use Rattle.std.specs.FinMap.{get, same_map, nat_cmp-IsAntisymmetric}
 use Rattle.std.proofs.lemmas.Bool.Decides.{nat_tests}
-use Rattle.guest_words.specs.Space.{Space, has_right, can_write, zero_cell, with_zeros, without}
+use Rattle.guest_words.specs.Space.{Space, has_right, can_write, zero_cell, page_up, with_zeros, without}
 use Rattle.guest_words.specs.State.{State}
 use Rattle.guest_words.specs.CallChanges.{has_page, are_free, free_place, heap_rights, with_break}
 use Rattle.guest_words.proofs.SpaceLaws.{is_within, each_has-all, get-with_zeros, get-without}
@@ -18,7 +19,8 @@ use Rattle.guest_words.proofs.AreaLaws.{free_place-at}
 abbrev heap : Facts → ℕ → Facts
 heap facts brk = record facts { low = 0x21000; brk = brk }
 
-pub break-below : (facts : Facts) → reply_of (Break 0) (heap facts 0x21000) ≡ reply.Value (pos 0x21000)
+-- outside of the heap it stays, and answers where it is
+pub break-below : (facts : Facts) → reply_of (Break 0) (heap facts 0x21000) ≡ reply.Break 0x21000
 unfolding reply_of
 break-below facts = refl
 
@@ -26,7 +28,7 @@ pub break-moves : (facts : Facts) → reply_of (Break 0x21010) (heap facts 0x210
 unfolding reply_of
 break-moves facts = refl
 
-pub break-just_below : (facts : Facts) → reply_of (Break 0x20fff) (heap facts 0x21010) ≡ reply.Value (pos 0x21010)
+pub break-just_below : (facts : Facts) → reply_of (Break 0x20fff) (heap facts 0x21010) ≡ reply.Break 0x21010
 unfolding reply_of
 break-just_below facts = refl
 
@@ -34,7 +36,7 @@ pub break-at_the_end : (facts : Facts) → reply_of (Break 0x4021000) (heap fact
 unfolding reply_of
 break-at_the_end facts = refl
 
-pub break-past_the_end : (facts : Facts) → reply_of (Break 0x4021001) (heap facts 0x21010) ≡ reply.Value (pos 0x21010)
+pub break-past_the_end : (facts : Facts) → reply_of (Break 0x4021001) (heap facts 0x21010) ≡ reply.Break 0x21010
 unfolding reply_of
 break-past_the_end facts = refl
 
@@ -70,6 +72,24 @@ pub gone-from_the_heap : (s : State) → s.brk ≡ 0x21010 → get (with_break s
 gone-from_the_heap s at =
     ap (λ brk. get (with_break (record s { brk = brk }) 0x21000).memory 0x21000) at
     ∙ get-without (with_zeros s.memory 0x22000 0 heap_rights) 0x21000 0x1000 0x21000
+
+-- a break that stays changes no memory
+pub memory-where_it_stays : (s : State) → (with_break s s.brk).memory ≡ s.memory
+memory-where_it_stays s =
+    ap (λ n. without (with_zeros s.memory (page_up s.brk) n heap_rights) (page_up s.brk) n) (nothing (page_up s.brk))
+    ∙ same_map nat_cmp_total nat_cmp-IsAntisymmetric (without (with_zeros s.memory (page_up s.brk) 0 heap_rights) (page_up s.brk) 0) s.memory at
+  where
+    nothing : (n : ℕ) → n - n ≡ 0
+    nothing n = omega arith
+    none : (a : ℕ) (t : Bool) → nat_le (page_up s.brk) a ≡ t → is_within (page_up s.brk) 0 a ≡ false
+    none a true low = grind (arith, nat_tests, low)
+    none a false low = grind (arith, nat_tests, low)
+    at : (a : ℕ) → get (without (with_zeros s.memory (page_up s.brk) 0 heap_rights) (page_up s.brk) 0) a ≡ get s.memory a
+    at a =
+        get-without (with_zeros s.memory (page_up s.brk) 0 heap_rights) (page_up s.brk) 0 a
+        ∙ ap (λ b. if b then None else get (with_zeros s.memory (page_up s.brk) 0 heap_rights) a) (none a (nat_le (page_up s.brk) a) refl)
+        ∙ get-with_zeros s.memory (page_up s.brk) 0 heap_rights a
+        ∙ ap (λ b. if b then Some (zero_cell heap_rights) else get s.memory a) (none a (nat_le (page_up s.brk) a) refl)
 
 -- mapping: what is refused
 pub map-nothing : (facts : Facts) → reply_of (Map 0 3 0x22) facts ≡ reply.Value EINVAL

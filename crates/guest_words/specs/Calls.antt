@@ -105,11 +105,11 @@ abbrev pub reply_of_clone : ℕ → Facts → Reply
 reply_of_clone flags facts =
     if makes_hart flags then child_in facts.free_slot else reply.Value EINVAL
 
--- a break outside the heap leaves it where it is
+-- a break outside the heap stays where it is
 abbrev pub reply_of_break : ℕ → Facts → Reply
 reply_of_break to facts =
-    if nat_lt to facts.low || nat_lt (facts.low + HEAP_BYTES) to then reply.Value (pos facts.brk)
-    else reply.Break to
+    reply.Break
+    (if nat_lt to facts.low || nat_lt (facts.low + HEAP_BYTES) to then facts.brk else to)
 
 -- memory of the program's own is asked for, and no exec: of the other flags two count for nothing
 abbrev pub is_map_known : ℕ → ℕ → Bool
