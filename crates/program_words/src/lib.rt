@@ -1,0 +1,15 @@
+//! The words of a command line, and what they ask for.
+#![tactic(auto)]
+
+mod command;
+mod command_kind;
+pub mod limits;
+mod port_name;
+mod table;
+mod word_fault;
+mod words_fault;
+
+pub use command::Command;
+pub use port_name::{PortName, PortNames};
+pub use word_fault::WordFault;
+pub use words_fault::WordsFault;
