@@ -1,3 +1,5 @@
 pub mod Kinds
+pub mod Ports
 pub mod Table
 pub mod WordFault
+pub mod Words

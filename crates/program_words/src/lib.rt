@@ -5,6 +5,7 @@ mod command;
 mod command_kind;
 pub mod limits;
 mod port_name;
+mod port_word;
 mod table;
 mod word_fault;
 mod words_fault;
