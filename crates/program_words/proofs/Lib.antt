@@ -1,2 +1,6 @@
+pub mod Fitting
+pub mod Numbers
 pub mod Parsed
+pub mod PortWords
 pub mod Rules
+pub mod Taking

@@ -11,7 +11,7 @@ use Rattle.clap.specs.Built.{IsAuto, IsParsedFrom, SameRules}
 use Rattle.clap.specs.Matches.{first_value, found_of, has_subcommand, matched_of, one_text}
 use Rattle.clap.specs.Values.{Accepts, IsUnsignedIn, read_as, reading_of}
 use Rattle.clap.specs.Walk.{Rule, Text, is_simple_arg, first_of, is_empty, one_of, rows_of, rule_of}
-use Rattle.clap.specs.Simple.{shape_of}
+use Rattle.clap.specs.Simple.{Shape, shape_of}
 use Rattle.clap.specs.declared.builder.action.ArgAction.TheVariants.{Set}
 use Rattle.clap.specs.declared.builder.arg.Arg.{Arg}
 use Rattle.clap.specs.declared.builder.command.Command.{Command}
@@ -23,7 +23,9 @@ use Rattle.clap.specs.declared.parser.matches.ArgMatches.{ArgMatches}
 use Rattle.clap.specs.declared.parser.matches.MatchedArg.{MatchedArg}
 use Rattle.clap.proofs.CallerLemmas.{entry_by_id, required_has_value, same_rules_by_id}
 use Rattle.clap.proofs.WalkLemmas.{first_value-rows, one_text-rows}
-use Rattle.program_words.proofs.Rules.{IsTame, is_only, none_of, only_at}
+use Rattle.std.proofs.lemmas.List.{length-map}
+use Rattle.program_words.specs.Fits.{HasNumberIn, HasText}
+use Rattle.program_words.proofs.Rules.{IsTame, is_only, is_tame, none_of, only_at, rule_at, tame_of}
 
 -- an id of the caller's own
 abbrev pub is_own : Text → Bool
@@ -150,3 +152,42 @@ accepted c m p tame k d r h low high parser =
     go : (o : Option Text) → one_text (found_of m) r.id ≡ o → IfSome o (IsUnsignedIn low high)
     go None e = tt
     go (Some t) e = accepted_at c m p tame k d r h low high parser t e
+
+-- ---- from the rules of a command
+
+some_arg : (xs : List Arg) (n : ℕ) → n < length xs → Arg
+some_arg [] n lt = absurd (omega arith)
+some_arg (x ∷ xs) n lt = x
+
+module _ (c : Command) (m : ArgMatches) (p : IsParsedFrom c m) (s : Shape) (shape : shape_of c ≡ s) (tame : is_tame s ≡ true) where
+  calm : IsTame c
+  calm = tame_of c (subst (λ (x : Shape). is_tame x ≡ true) (sym shape) tame)
+
+  is : map rule_of (args_of c) ≡ s.rules
+  is = ap (λ (x : Shape). x.rules) shape
+
+  below : (k : ℕ) → k < length s.rules → k < length (args_of c)
+  below k lt = omega (arith, ap length is, length-map (args_of c) rule_of)
+
+  -- the argument of the rule at a place
+  at : (k : ℕ) (d : Arg) (r : Rule) → k < length s.rules → slice_index_or s.rules k r ≡ r → (is_only k r.id s.rules && is_own r.id) ≡ true → IsArgAt c k d r
+  at k d r lt here alone =
+      let parts = and_parts (is_only k r.id s.rules) (is_own r.id) alone in
+      record {
+        below = below k lt;
+        rule = rule_at (args_of c) k d r (below k lt) ∙ ap (λ xs. slice_index_or xs k r) is ∙ here;
+        only = subst (λ xs. is_only k r.id xs ≡ true) (sym is) parts.0;
+        own = parts.1;
+      }
+
+  pub has_text : (k : ℕ) (r : Rule) → k < length s.rules → slice_index_or s.rules k r ≡ r → (is_only k r.id s.rules && is_own r.id) ≡ true
+      → r.required ≡ true → r.action ≡ Some Set → r.range ≡ None → r.is_simple ≡ true → HasText r.id (rows_of (found_of m))
+  has_text k r lt here alone required set range simple =
+      let d = some_arg (args_of c) k (below k lt) in
+      required_text c m p calm k d r (at k d r lt here alone) required set range simple
+
+  pub has_number : (k : ℕ) (r : Rule) → k < length s.rules → slice_index_or s.rules k r ≡ r → (is_only k r.id s.rules && is_own r.id) ≡ true
+      → (low high : ℕ) → r.parser ≡ Some (Unsigned low high) → HasNumberIn r.id low high (rows_of (found_of m))
+  has_number k r lt here alone low high parser =
+      let d = some_arg (args_of c) k (below k lt) in
+      accepted c m p calm k d r (at k d r lt here alone) low high parser

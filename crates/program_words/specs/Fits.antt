@@ -1,5 +1,6 @@
 -- What holds of the rows of a command whose words `clap` takes.
-use Rattle.std.specs.Prelude.{◌≡◌, ◌^◌, ◌-◌, ℕ, List, IfSome, true, is_some, codes}
+use Rattle.std.specs.Prelude.{◌≡◌, ◌<◌, ◌^◌, ◌-◌, ℕ, List, IfSome, true, is_some, codes}
+use Rattle.std.specs.Str.Parse.{IsNumeral, digits_value, without_leading_plus}
 use Rattle.clap.specs.Words.{IsUnsignedIn, Row, Text, first_of, one_of}
 use Rattle.guest_words.specs.declared.limits.TheConstants.{BUDGET, HARTS}
 use Rattle.program_words.specs.declared.command_kind.CommandKind.{CommandKind}
@@ -13,6 +14,11 @@ HasText id rows = is_some (first_of id rows) ≡ true
 -- the number, where it is given, is in the range
 abbrev pub HasNumberIn : Text → ℕ → ℕ → List Row → Type 0
 HasNumberIn id least most rows = IfSome (one_of id rows) (IsUnsignedIn least most)
+
+-- the text is a number that a `u64` can hold
+abbrev pub IsNumber : Text → Type 0
+IsNumber text = IsNumeral 10 (without_leading_plus text)
+    × (digits_value 10 (without_leading_plus text) < 2 ^ 64)
 
 -- the options of a run are in their ranges
 abbrev pub FitRun : List Row → Type 0

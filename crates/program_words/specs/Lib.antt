@@ -1,6 +1,7 @@
 pub mod Fits
 pub mod Kinds
 pub mod Ports
+pub mod Refusal
 pub mod Table
 pub mod WordFault
 pub mod Words

@@ -4,9 +4,11 @@
 mod command;
 mod command_kind;
 pub mod limits;
+mod parse;
 mod port_name;
 mod port_word;
 mod table;
+mod values;
 mod word_fault;
 mod words_fault;
 
