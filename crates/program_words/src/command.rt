@@ -3,7 +3,7 @@ use guest_words::Name;
 /// What the words ask for.
 #[derive(Drop)]
 pub enum Command {
-    /// Run a program, a thread a hart.
+    /// Run a program on threads.
     Run {
         /// The rescue file.
         points: Option<Name>,
