@@ -1,5 +1,5 @@
 -- The rows of each command that `clap` takes fit it.
-use Rattle.std.proofs.Common.{◌≡◌, ◌^◌, ◌-◌, ap, refl, arith, codes, lit<}
+use Rattle.std.proofs.Common.{◌≡◌, ◌^◌, ◌-◌, ap, refl, codes, lit<}
 use Rattle.clap.specs.Built.{IsParsedFrom}
 use Rattle.clap.specs.Matches.{found_of}
 use Rattle.clap.specs.Walk.{rows_of}

@@ -4,3 +4,4 @@ pub mod Parsed
 pub mod PortWords
 pub mod Rules
 pub mod Taking
+pub mod Worked

@@ -1,14 +1,14 @@
 -- What a parse that succeeds gives: required texts, and numbers in their ranges.
-use Rattle.std.proofs.Common.{◌≡◌, ◌∙◌, ◌<◌, ◌≤◌, ◌&&◌, ℕ, zero, suc, Bool, true, false, not, List, [], ◌∷◌, length, map, is_some, Option, Some, None, ap, sym, subst, refl, inl, inr, arith, codes}
+use Rattle.std.proofs.Common.{◌≡◌, ◌∙◌, ◌<◌, ◌≤◌, ◌&&◌, ℕ, Bool, true, not, List, [], ◌∷◌, length, map, is_some, Option, Some, None, ap, sym, subst, refl, inl, inr, arith, codes}
 use Rattle.std.specs.List.{All, slice_index_or}
 use Rattle.std.specs.Prelude.{IfSome, option_map, slice_get}
 use Rattle.std.specs.Str.{bytes_eq}
 use Rattle.std.specs.Borrow.{Bor}
 use Rattle.std.proofs.lemmas.Bool.{and_parts, both_ways, not-true}
 use Rattle.std.proofs.lemmas.Slice.Eq.{bytes_eq-Decides}
-use Rattle.clap.specs.Facts.{args_of, groups_of, Entry, EntryPasses, IsParsed, PassesArg, HasReading, least_values, parser_of, parser_of_value, unwrap_or_range}
-use Rattle.clap.specs.Built.{IsAuto, IsParsedFrom, SameRules}
-use Rattle.clap.specs.Matches.{first_value, found_of, has_subcommand, matched_of, one_text}
+use Rattle.clap.specs.Facts.{args_of, groups_of, Entry, EntryPasses, least_values, parser_of, parser_of_value, unwrap_or_range}
+use Rattle.clap.specs.Built.{IsAuto, IsParsedFrom}
+use Rattle.clap.specs.Matches.{first_value, found_of, matched_of, one_text}
 use Rattle.clap.specs.Values.{Accepts, IsUnsignedIn, read_as, reading_of}
 use Rattle.clap.specs.Walk.{Rule, Text, is_simple_arg, first_of, is_empty, one_of, rows_of, rule_of}
 use Rattle.clap.specs.Simple.{Shape, shape_of}

@@ -1,5 +1,5 @@
 -- The port words of a parse, and those of texts behind references.
-use Rattle.std.proofs.Common.{◌≡◌, ◌∙◌, ◌+◌, ℕ, Bool, true, false, List, [], ◌∷◌, length, map, Option, Some, None, ap, ap₂, refl, not, codes}
+use Rattle.std.proofs.Common.{◌≡◌, ◌∙◌, ◌+◌, ℕ, Bool, List, [], ◌∷◌, map, Option, Some, None, ap, ap₂, refl, not, codes}
 use Rattle.std.specs.Prelude.{cond, nat_lt, option_map, position, unwrap_or}
 use Rattle.std.specs.List.{position_or_len}
 use Rattle.std.specs.Borrow.{Bor}

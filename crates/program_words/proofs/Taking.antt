@@ -1,5 +1,5 @@
 -- What `clap` says of a parse, of the commands here.
-use Rattle.std.proofs.Common.{◌≡◌, ◌∙◌, Bool, true, false, List, [], ◌∷◌, length, ap, sym, subst, refl, inl, inr, arith}
+use Rattle.std.proofs.Common.{◌≡◌, ◌∙◌, true, false, List, [], ◌∷◌, length, ap, sym, refl, inl, inr, arith}
 use Rattle.std.proofs.lemmas.Bool.{ne_eqb}
 use Rattle.clap.specs.Words.{App, HasMatchesOf, Text, fault_of, found_of, is_simple, is_simple_and_free, kind_of, matches_of, rows_of}
 use Rattle.clap.specs.Kinds.{HasKind, IsAmong, Kinds}
@@ -10,7 +10,6 @@ use Rattle.clap.specs.declared.parser.matches.ArgMatches.{ArgMatches}
 use Rattle.program_words.specs.declared.command_kind.CommandKind.{CommandKind}
 use Rattle.program_words.specs.declared.command_kind.CommandKind.TheVariants.{Run, Alone, List as Listing, Load}
 use Rattle.program_words.specs.declared.word_fault.WordFault.{WordFault}
-use Rattle.program_words.specs.declared.words_fault.WordsFault.{WordsFault}
 use Rattle.program_words.specs.declared.words_fault.WordsFault.TheVariants.{Memory, Words}
 use Rattle.program_words.specs.Refusal.{refusal_of}
 use Rattle.program_words.specs.Table.{app_named}

@@ -1,5 +1,5 @@
 -- Port words, IN:OUT.
-use Rattle.std.specs.Prelude.{ℕ, ◌==◌, ◌&&◌, Bool, not, List, length, nat_lt, map, Option, count_by, position}
+use Rattle.std.specs.Prelude.{ℕ, ◌==◌, ◌&&◌, Bool, not, List, length, nat_lt, Option, count_by, position}
 use Rattle.std.specs.List.{before_first, after_first}
 use Rattle.program_words.specs.declared.port_name.PortName.{PortName}
 

@@ -1,4 +1,4 @@
-use Rattle.std.proofs.Common.{◌≡◌, ◌∙◌, ap, sym, subst, refl}
+use Rattle.std.proofs.Common.{◌≡◌, ◌∙◌, sym, subst}
 use Rattle.program_words.specs.declared.words_fault.WordsFault.TheVariants.{Words}
 use Rattle.program_words.specs.Fits.{Fit}
 use Rattle.program_words.proofs.Fitting.{fits}
