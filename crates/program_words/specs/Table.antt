@@ -47,8 +47,8 @@ run_options = option_rule (codes "points") ∷ number_rule (codes "harts") 1 HAR
     ∷ number_rule (codes "budget") 1 BUDGET ∷ []
 
 -- a program, and any number of port words
-abbrev pub program_words : List Rule
-program_words = required_rule (codes "program") ∷ ports_rule ∷ []
+abbrev pub program_and_ports : List Rule
+program_and_ports = required_rule (codes "program") ∷ ports_rule ∷ []
 
 -- the number of a load
 abbrev pub load_rule : Rule
@@ -60,7 +60,7 @@ seed_rule = number_rule (codes "seed") 0 (2 ^ 64 - 1)
 
 -- the options and the words of each command
 abbrev pub app_named : CommandKind → App
-app_named kind.Run = simple_app (codes "run") (run_options ++ program_words)
-app_named kind.Alone = simple_app (codes "alone") (run_options ++ seed_rule ∷ program_words)
+app_named kind.Run = simple_app (codes "run") (run_options ++ program_and_ports)
+app_named kind.Alone = simple_app (codes "alone") (run_options ++ seed_rule ∷ program_and_ports)
 app_named kind.List = simple_app (codes "list") (required_rule (codes "program") ∷ [])
 app_named kind.Load = simple_app (codes "load") (load_rule ∷ [])

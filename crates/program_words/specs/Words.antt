@@ -66,14 +66,14 @@ rows_or_fault k words = if is_taken k words
     then unless_bad_port (k, rows_in k words) (first_bad_port (port_words (rows_in k words)))
     else Err Line
 
-abbrev pub of_kind : Option CommandKind → List Text → Result (CommandKind × List Row) WordFault
-of_kind None words = Err UnknownCommand
-of_kind (Some k) words = rows_or_fault k words
+abbrev pub reading_of_kind : Option CommandKind → List Text → Result (CommandKind × List Row) WordFault
+reading_of_kind None words = Err UnknownCommand
+reading_of_kind (Some k) words = rows_or_fault k words
 
 -- the command's kind and its rows, or the first rule that the words break
 abbrev pub reading_of : List Text → Result (CommandKind × List Row) WordFault
 reading_of [] = Err NoCommand
-reading_of (first ∷ words) = of_kind (kind_named first) words
+reading_of (first ∷ words) = reading_of_kind (kind_named first) words
 
 -- what the words ask for, or the first rule that they break
 abbrev pub command_of : List Text → Result Command WordFault

@@ -92,7 +92,8 @@ fn command(
 /// FILE`, `--harts N` from 1 to 64, 8 where it isn't given, and `--budget N` from 1 to 20,000,000
 /// steps, 5,000,000 where it isn't given; then PROGRAM and any number of port words IN:OUT. `alone`
 /// takes those and `--seed N`, 0 where it isn't given. `list` takes PROGRAM, and `load` a number
-/// from 1 to 1,000. The rules are those of [`WordFault`](crate::WordFault), in their order.
+/// from 1 to 1,000. The rules are those of [`WordFault`](crate::WordFault), in their order;
+/// want of memory is the one other error.
 pub fn read_words(alloc: Global, words: &[String]) -> Result<Command, WordsFault>
     ensures ok { IfOk result (λ c. command_of (texts words.now) ≡ Ok c) }
     ensures range { IfOk result IsInRange }

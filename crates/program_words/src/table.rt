@@ -1,6 +1,6 @@
 ghost use Rattle.std.specs.Prelude.{◌≡◌, [], IfOk, false, fold};
 ghost use Rattle.clap.specs.Words.{app_of, rule_of, with_rule};
-ghost use Rattle.program_words.specs.Table.{app_named, number_rule, run_options, program_words, option_rule, ports_rule, required_rule, simple_app};
+ghost use Rattle.program_words.specs.Table.{app_named, number_rule, run_options, program_and_ports, option_rule, ports_rule, required_rule, simple_app};
 
 use crate::command_kind::CommandKind;
 use crate::limits::LOADS;
@@ -63,7 +63,7 @@ fn with_run_options<'a>(alloc: Global, command: Command<'a>) -> Result<Command<'
 
 /// The command with a program and its ports.
 fn with_program<'a>(alloc: Global, command: Command<'a>) -> Result<Command<'a>, AllocError>
-    ensures app { IfOk result (λ c. app_of c ≡ fold with_rule (app_of command.entry) program_words) }
+    ensures app { IfOk result (λ c. app_of c ≡ fold with_rule (app_of command.entry) program_and_ports) }
 {
     command.arg(required(alloc, "program"))?.arg(ports(alloc))
 }
