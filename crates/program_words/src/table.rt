@@ -63,7 +63,8 @@ fn with_run_options<'a>(alloc: Global, command: Command<'a>) -> Result<Command<'
 
 /// The command with a program and its ports.
 fn with_program<'a>(alloc: Global, command: Command<'a>) -> Result<Command<'a>, AllocError>
-    ensures app { IfOk result (λ c. app_of c ≡ fold with_rule (app_of command.entry) program_and_ports) }
+    ensures app { IfOk result (λ c.
+        app_of c ≡ fold with_rule (app_of command.entry) program_and_ports) }
 {
     command.arg(required(alloc, "program"))?.arg(ports(alloc))
 }
