@@ -66,7 +66,8 @@ rows_or_fault k words = if is_taken k words
     then unless_bad_port (k, rows_in k words) (first_bad_port (port_words (rows_in k words)))
     else Err Line
 
-abbrev pub reading_of_kind : Option CommandKind → List Text → Result (CommandKind × List Row) WordFault
+abbrev pub reading_of_kind : Option CommandKind → List Text
+    → Result (CommandKind × List Row) WordFault
 reading_of_kind None words = Err UnknownCommand
 reading_of_kind (Some k) words = rows_or_fault k words
 
