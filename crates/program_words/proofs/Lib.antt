@@ -1,0 +1,7 @@
+pub mod Fitting
+pub mod Numbers
+pub mod Parsed
+pub mod PortWords
+pub mod Rules
+pub mod Taking
+pub mod Worked

@@ -1,0 +1,32 @@
+-- What holds of the rows of a command whose words `clap` takes.
+use Rattle.std.specs.Prelude.{◌≡◌, ◌<◌, ◌^◌, ◌-◌, ℕ, List, IfSome, true, is_some, codes}
+use Rattle.std.specs.Str.Parse.{IsNumeral, digits_value, without_leading_plus}
+use Rattle.clap.specs.Words.{IsUnsignedIn, Row, Text, first_of, one_of}
+use Rattle.guest_words.specs.declared.limits.TheConstants.{BUDGET, HARTS}
+use Rattle.program_words.specs.declared.command_kind.CommandKind.{CommandKind}
+use Rattle.program_words.specs.declared.command_kind.CommandKind.TheVariants as kind
+use Rattle.program_words.specs.declared.limits.TheConstants.{LOADS}
+
+-- the text is given
+abbrev pub HasText : Text → List Row → Type 0
+HasText id rows = is_some (first_of id rows) ≡ true
+
+-- the number, where it is given, is in the range
+abbrev pub HasNumberIn : Text → ℕ → ℕ → List Row → Type 0
+HasNumberIn id least most rows = IfSome (one_of id rows) (IsUnsignedIn least most)
+
+-- the text is a number that a `u64` can hold
+abbrev pub IsNumber : Text → Type 0
+IsNumber text = IsNumeral 10 (without_leading_plus text)
+    × (digits_value 10 (without_leading_plus text) < 2 ^ 64)
+
+-- the options of a run are in their ranges
+abbrev pub FitRun : List Row → Type 0
+FitRun rows = HasNumberIn (codes "harts") 1 HARTS rows × HasNumberIn (codes "budget") 1 BUDGET rows
+
+abbrev pub Fit : CommandKind → List Row → Type 0
+Fit kind.Run rows = HasText (codes "program") rows × FitRun rows
+Fit kind.Alone rows = HasText (codes "program") rows × FitRun rows
+    × HasNumberIn (codes "seed") 0 (2 ^ 64 - 1) rows
+Fit kind.List rows = HasText (codes "program") rows
+Fit kind.Load rows = HasText (codes "number") rows × HasNumberIn (codes "number") 1 LOADS rows

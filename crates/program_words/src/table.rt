@@ -1,0 +1,92 @@
+ghost use Rattle.std.specs.Prelude.{◌≡◌, [], IfOk, false, fold};
+ghost use Rattle.clap.specs.Words.{app_of, rule_of, with_rule};
+ghost use Rattle.program_words.specs.Table.{app_named, number_rule, run_options, program_and_ports, option_rule, ports_rule, required_rule, simple_app};
+
+use crate::command_kind::CommandKind;
+use crate::limits::LOADS;
+use clap::builder::ValueParser;
+use clap::{Arg, ArgAction, Command};
+use guest_words::limits::{BUDGET, HARTS};
+use std::alloc::{AllocError, Global};
+
+/// `--name TEXT`.
+fn option<'a>(alloc: Global, name: &'a str) -> Arg<'a>
+    ensures rule { rule_of result ≡ option_rule name.entry.now }
+    ensures local { result.global ≡ false }
+{
+    Arg::new(alloc, name).long(name)
+}
+
+/// `--name N`, from `least` to `most`.
+fn number<'a>(alloc: Global, name: &'a str, least: u64, most: u64) -> Arg<'a>
+    ensures rule { rule_of result ≡ number_rule name.entry.now least most }
+    ensures local { result.global ≡ false }
+{
+    option(alloc, name).value_parser(ValueParser::unsigned(least, most))
+}
+
+/// A positional that has to be there.
+fn required<'a>(alloc: Global, name: &'a str) -> Arg<'a>
+    ensures rule { rule_of result ≡ required_rule name.entry.now }
+    ensures local { result.global ≡ false }
+{
+    Arg::new(alloc, name).action(ArgAction::Set).required(true)
+}
+
+/// Any number of further positionals.
+fn ports<'a>(alloc: Global) -> Arg<'a>
+    ensures rule { rule_of result ≡ ports_rule }
+    ensures local { result.global ≡ false }
+{
+    Arg::new(alloc, "ports").num_args(0..)
+}
+
+/// A command without help and version flags, whose words don't include its name.
+fn bare<'a>(alloc: Global, name: &'a str) -> Command<'a>
+    ensures app { app_of result ≡ simple_app name.entry.now [] }
+{
+    Command::new(alloc, name)
+        .no_binary_name(true)
+        .disable_help_flag(true)
+        .disable_version_flag(true)
+}
+
+/// The command with the options of a run.
+fn with_run_options<'a>(alloc: Global, command: Command<'a>) -> Result<Command<'a>, AllocError>
+    ensures app { IfOk result (λ c. app_of c ≡ fold with_rule (app_of command.entry) run_options) }
+{
+    command
+        .arg(option(alloc, "points"))?
+        .arg(number(alloc, "harts", 1, u64::from(HARTS)))?
+        .arg(number(alloc, "budget", 1, BUDGET))
+}
+
+/// The command with a program and its ports.
+fn with_program<'a>(alloc: Global, command: Command<'a>) -> Result<Command<'a>, AllocError>
+    ensures app { IfOk result (λ c.
+        app_of c ≡ fold with_rule (app_of command.entry) program_and_ports) }
+{
+    command.arg(required(alloc, "program"))?.arg(ports(alloc))
+}
+
+/// What the command takes behind its name.
+pub fn simple_command<'a>(alloc: Global, kind: CommandKind) -> Result<Command<'a>, AllocError>
+    ensures app { IfOk result (λ c. app_of c ≡ app_named kind) }
+{
+    match kind {
+        CommandKind::Run => {
+            let command = with_run_options(alloc, bare(alloc, "run"))?;
+            with_program(alloc, command)
+        }
+        CommandKind::Alone => {
+            let command = with_run_options(alloc, bare(alloc, "alone"))?;
+            let command = command.arg(number(alloc, "seed", 0, u64::MAX))?;
+            with_program(alloc, command)
+        }
+        CommandKind::List => bare(alloc, "list").arg(required(alloc, "program")),
+        CommandKind::Load => {
+            let number = required(alloc, "number").value_parser(ValueParser::unsigned(1, LOADS));
+            bare(alloc, "load").arg(number)
+        }
+    }
+}
