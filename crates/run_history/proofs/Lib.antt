@@ -1,0 +1,3 @@
+pub mod Ands
+pub mod Insides
+pub mod LastEntries

@@ -1,0 +1,9 @@
+pub mod After
+pub mod Ahead
+pub mod Built
+pub mod Counts
+pub mod HistoryView
+pub mod LastEntry
+pub mod Legal
+pub mod Quiet
+pub mod Run

@@ -1,0 +1,109 @@
+ghost use Rattle.std.specs.Prelude.{◌≡◌, ◌+◌, ◌<◌, ◌≤◌, [], ◌∷◌, ◌++◌, length, IsTrue, OnOk};
+ghost use Rattle.run_history.specs.LastEntry.{can_lengthen, longer, ends_in_ran, lengthened};
+
+use crate::entry::Entry;
+use guest_words::MemoryWant;
+use sqlite_items::Items;
+use std::marker::Model;
+
+/// What has happened in a run, the oldest entry first, with room for more.
+#[derive(Drop)]
+pub struct History {
+    entries: Vec<Entry>,
+}
+
+impl Model for History {
+    ghost use Rattle.std.specs.Prelude.{◌-◌, vec_len, vec_capacity};
+    ghost use Rattle.run_history.specs.HistoryView.{HistoryView};
+    ghost use Rattle.std.specs.Coded.{codes};
+    ghost use Rattle.run_history.specs.contracts.entry.Entry as e;
+
+    ghost Value = { HistoryView };
+
+    ghost coded = { Prim.hlevel (codes, e.the_row.coded) };
+
+    ghost view = { λ h. record {
+      entries = h.entries.items;
+      spare = vec_capacity h.entries - vec_len h.entries;
+    } };
+}
+
+impl History {
+    /// The history of the entries of the `Vec`, which is kept as it is.
+    pub fn of(entries: Vec<Entry>) -> History
+        ensures list { result.entries ≡ entries.items }
+    {
+        History { entries }
+    }
+
+    /// The entries, the oldest first.
+    pub fn items(&self) -> &[Entry]
+        ensures list { result.now ≡ self.now.entries }
+    {
+        self.entries.as_slice()
+    }
+
+    /// Makes room for so many further entries.
+    pub fn reserve(&mut self, entries: usize) -> Result<(), MemoryWant>
+        ensures same { self.new.entries ≡ self.old.entries }
+        ensures ok { OnOk result (entries ≤ self.new.spare) }
+        ensures room { self.old.spare ≤ self.new.spare }
+    {
+        self.entries.reserve(entries)?;
+        Ok(())
+    }
+
+    /// Puts an entry last.
+    pub fn push(&mut self, entry: Entry)
+        requires room { 0 < self.old.spare }
+        ensures entries { self.new.entries ≡ self.old.entries ++ entry ∷ [] }
+        ensures room { self.new.spare + 1 ≡ self.old.spare }
+    {
+        self.entries.push_reserved(entry)
+    }
+
+    /// Makes the count of the last entry one more.
+    pub fn lengthen(&mut self)
+        requires last { IsTrue (ends_in_ran self.old.entries) }
+        ensures entries { self.new.entries ≡ lengthened self.old.entries }
+        ensures room { self.new.spare ≡ self.old.spare }
+    {
+        match self.entries.pop() {
+            Some(last) => self.entries.push_reserved(longer(last)),
+            None => {}
+        }
+    }
+
+    /// Puts these entries behind those of another history.
+    pub fn join_onto(self, outer: &mut History)
+        requires room { length self.entries ≤ outer.old.spare }
+        ensures entries { outer.new.entries ≡ outer.old.entries ++ self.entries }
+        ensures room { outer.old.spare ≤ outer.new.spare + length self.entries }
+    {
+        let History { mut entries } = self;
+        match outer.entries.append(&mut entries) {
+            Ok(()) => {}
+            Err(_) => unreachable!(),
+        }
+    }
+
+    /// The entries, as the inside of a rescued call.
+    pub fn into_inside(self) -> Items<Entry>
+        ensures list { result ≡ self.entries }
+    {
+        Items::from_vec(self.entries)
+    }
+}
+
+fn longer(entry: Entry) -> Entry
+    requires ran { IsTrue (can_lengthen entry) }
+    ensures value { result ≡ longer entry }
+{
+    match entry {
+        Entry::Ran { hart, count } => Entry::Ran {
+            hart,
+            count: count + 1,
+        },
+        other => other,
+    }
+}
