@@ -1,5 +1,5 @@
 -- The last entry of a list, taken off and made longer.
-use Rattle.std.proofs.Common.{◌≡◌, true, List, [], ◌∷◌, ◌++◌, refl, ap}
+use Rattle.std.proofs.Common.{◌≡◌, List, [], ◌∷◌, ◌++◌, refl, ap}
 use Rattle.run_history.specs.declared.entry.Entry.{Entry}
 use Rattle.run_history.specs.LastEntry.{can_lengthen, longer, ends_in_ran, lengthened}
 

@@ -83,7 +83,7 @@ unfoldable mutual
   legal s (Rescued' h point fault shape inside) =
       may_act s h && is_arrival point (built_act s h)
       && licence s h fault (legal_row (enter h point s) h (frames_at s h) inside)
-          (after_row (enter h point s) inside)
+      (after_row (enter h point s) inside)
   legal s (Ended ending) = is_ending s ending
 
   -- each entry of an inside is legal and of the hart, and leaves more than so many frames open

@@ -6,4 +6,5 @@ pub mod HistoryView
 pub mod LastEntry
 pub mod Legal
 pub mod Quiet
+pub mod Requests
 pub mod Run
