@@ -1,10 +1,10 @@
 -- The last entry of a history, where it is a Ran that can be made longer.
-use Rattle.std.specs.Prelude.{◌+◌, Bool, false, nat_lt, List, [], ◌∷◌}
+use Rattle.std.specs.Prelude.{◌+◌, ◌^◌, Bool, false, nat_lt, List, [], ◌∷◌}
 use Rattle.run_history.specs.declared.entry.Entry.{Entry, Ran}
 
 -- a Ran whose count can grow
 abbrev pub can_lengthen : Entry → Bool
-can_lengthen (Ran hart count) = nat_lt count 4294967295
+can_lengthen (Ran hart count) = nat_lt (count + 1) (2 ^ 32)
 can_lengthen _ = false
 
 -- the same Ran with one act more
