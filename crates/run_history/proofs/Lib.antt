@@ -18,3 +18,5 @@ pub mod StepsAfter
 pub mod OneEnding
 pub mod Requests
 pub mod ByteLengths
+pub mod Arrivals
+pub mod Ahead
