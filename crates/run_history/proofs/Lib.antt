@@ -20,3 +20,6 @@ pub mod Requests
 pub mod ByteLengths
 pub mod Arrivals
 pub mod Ahead
+pub mod Faulting
+pub mod BuiltActs
+pub mod Lone

@@ -2,6 +2,7 @@ pub mod After
 pub mod Ahead
 pub mod Built
 pub mod Counts
+pub mod Faults
 pub mod HistoryView
 pub mod LastEntry
 pub mod Legal
