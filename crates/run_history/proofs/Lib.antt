@@ -23,3 +23,4 @@ pub mod Ahead
 pub mod Faulting
 pub mod BuiltActs
 pub mod Lone
+pub mod Readiness
