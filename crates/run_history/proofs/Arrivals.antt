@@ -60,9 +60,9 @@ module _ (s : State) (h : ℕ) (p : PointRef) where
     blocked = λ e. cc;
     rouse = λ place value is e. cc;
     child = λ flags stack parent tls child slot is free e. cc;
-    breaks = λ to is within e. cc;
-    maps = λ length prot flags place is asked few free e. cc;
-    unmaps = λ place length is within e. cc;
+    breaks = λ asked to is at e. cc;
+    maps = λ size prot flags place is asked few free e. cc;
+    unmaps = λ place size is within e. cc;
   }
 
   pub act_arrives : act_of s h ≡ Arrival p → Arrives s h p

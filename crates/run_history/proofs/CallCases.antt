@@ -42,12 +42,13 @@ pub record CallCases (P : StateAct → Type 0) (s : State) (h : ℕ) (call : Cal
   pub rouse : (place value : ℕ) → call ≡ request.Wake place value → P (ordinary (wakes s h place (low_32 value)) h)
   pub child : (flags stack parent tls child slot : ℕ) → call ≡ request.Clone flags stack parent tls child → free_slot s.slots ≡ Some slot
       → P (ordinary (clones s h slot flags stack parent tls child) h)
-  pub breaks : (to : ℕ) → call ≡ request.Break to → (nat_lt to s.low || nat_lt (s.low + HEAP_BYTES) to) ≡ false → P (ordinary (breaks s h to) h)
-  pub maps : (length prot flags place : ℕ) → call ≡ request.Map length prot flags → ((length == 0) || not (is_map_known prot flags)) ≡ false
-      → nat_lt MAP_PAGES (mapped_pages s.memory + pages_in length) ≡ false → free_place s.memory (pages_in length) ≡ Some place
-      → P (ordinary (maps s h place (pages_in length) (mapped_rights prot)) h)
-  pub unmaps : (place length : ℕ) → call ≡ request.Unmap place length → (not (place % PAGE == 0) || (length == 0) || not (is_in_area place (pages_in length))) ≡ false
-      → P (ordinary (unmaps s h place (pages_in length)) h)
+  -- the break comes to lie in the heap, or stays
+  pub breaks : (asked to : ℕ) → call ≡ request.Break asked → to ≡ (if nat_lt asked s.low || nat_lt (s.low + HEAP_BYTES) asked then s.brk else asked) → P (ordinary (breaks s h to) h)
+  pub maps : (size prot flags place : ℕ) → call ≡ request.Map size prot flags → ((size == 0) || not (is_map_known prot flags)) ≡ false
+      → nat_lt MAP_PAGES (mapped_pages s.memory + pages_in size) ≡ false → free_place s.memory (pages_in size) ≡ Some place
+      → P (ordinary (maps s h place (pages_in size) (mapped_rights prot)) h)
+  pub unmaps : (place size : ℕ) → call ≡ request.Unmap place size → (not (place % PAGE == 0) || (size == 0) || not (is_in_area place (pages_in size))) ≡ false
+      → P (ordinary (unmaps s h place (pages_in size)) h)
 
 -- what has to be shown of each act of a hart alone, as one in the state
 pub record ActCases (P : StateAct → Type 0) (s : State) (h : ℕ) (a : Act) : Type 0 where
@@ -88,20 +89,20 @@ module _ (P : StateAct → Type 0) (s : State) (h : ℕ) where
       by : (o : Option ℕ) → free_slot s.slots ≡ o → P (replied s h (child_in o) (request.Clone flags stack parent tls child))
       by None is = cases.value EAGAIN
       by (Some slot) is = cases.child flags stack parent tls child slot refl is
-  call_by (request.Break to) cases = either (request.Break to) (nat_lt to s.low || nat_lt (s.low + HEAP_BYTES) to) _ _ (λ e. cases.value (pos s.brk)) (cases.breaks to refl)
-  call_by (request.Map length prot flags) cases =
-      let map = request.Map length prot flags in
-      either map ((length == 0) || not (is_map_known prot flags)) _ _ (λ e. cases.value EINVAL)
-      (λ asked. either map (nat_lt MAP_PAGES (mapped_pages s.memory + pages_in length)) _ _ (λ e. cases.value ENOMEM)
-      (λ few. by (free_place s.memory (pages_in length)) (λ place. cases.maps length prot flags place refl asked few)))
+  call_by (request.Break asked) cases = cases.breaks asked _ refl refl
+  call_by (request.Map size prot flags) cases =
+      let map = request.Map size prot flags in
+      either map ((size == 0) || not (is_map_known prot flags)) _ _ (λ e. cases.value EINVAL)
+      (λ asked. either map (nat_lt MAP_PAGES (mapped_pages s.memory + pages_in size)) _ _ (λ e. cases.value ENOMEM)
+      (λ few. by (free_place s.memory (pages_in size)) (λ place. cases.maps size prot flags place refl asked few)))
     where
-      by : (o : Option ℕ) → ((place : ℕ) → o ≡ Some place → P (ordinary (maps s h place (pages_in length) (mapped_rights prot)) h))
-          → P (replied s h (mapped_at (pages_in length) prot o) (request.Map length prot flags))
+      by : (o : Option ℕ) → ((place : ℕ) → o ≡ Some place → P (ordinary (maps s h place (pages_in size) (mapped_rights prot)) h))
+          → P (replied s h (mapped_at (pages_in size) prot o) (request.Map size prot flags))
       by None goes = cases.value ENOMEM
       by (Some place) goes = goes place refl
-  call_by (request.Unmap place length) cases =
-      either (request.Unmap place length) (not (place % PAGE == 0) || (length == 0) || not (is_in_area place (pages_in length))) _ _ (λ e. cases.value EINVAL)
-      (cases.unmaps place length refl)
+  call_by (request.Unmap place size) cases =
+      either (request.Unmap place size) (not (place % PAGE == 0) || (size == 0) || not (is_in_area place (pages_in size))) _ _ (λ e. cases.value EINVAL)
+      (cases.unmaps place size refl)
   call_by request.Yield cases = cases.value (pos 0)
   call_by request.Tid cases = cases.value (pos (tid_of (slice_get s.slots h)))
   call_by request.Unknown cases = cases.value ENOSYS

@@ -24,3 +24,5 @@ pub mod Faulting
 pub mod BuiltActs
 pub mod Lone
 pub mod Readiness
+pub mod Fetches
+mod RunsShown

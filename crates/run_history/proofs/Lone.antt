@@ -123,9 +123,9 @@ module _ (h : ℕ) where
     blocked = tt;
     rouse = λ place value is. absurd (subst (IsBuiltRequest frames) is built);
     child = λ flags stack parent tls child slot is free. absurd (subst (IsBuiltRequest frames) is built);
-    breaks = λ to is within. breaks_by h KeepsOthers own s to;
-    maps = λ length prot flags place is asked few free. maps_by h KeepsOthers own s place _ _;
-    unmaps = λ place length is within. unmaps_by h KeepsOthers own s place _;
+    breaks = λ asked to is at. breaks_by h KeepsOthers own s to;
+    maps = λ size prot flags place is asked few free. maps_by h KeepsOthers own s place _ _;
+    unmaps = λ place size is within. unmaps_by h KeepsOthers own s place _;
   }
 
   lone_act : (s : State) → is_built s h ≡ true → IsLone h s.slots → Leads KeepsOthers s (act_of s h)

@@ -94,9 +94,9 @@ inside_call s h call frames framed ready built =
       blocked = tt;
       rouse = λ place value is. absurd (subst (IsBuiltRequest frames) is built);
       child = λ flags stack parent tls child slot is free. absurd (subst (IsBuiltRequest frames) is built);
-      breaks = λ to is within. absurd (subst (IsBuiltRequest frames) is built);
-      maps = λ length prot flags place is asked few free. absurd (subst (IsBuiltRequest frames) is built);
-      unmaps = λ place length is within. absurd (subst (IsBuiltRequest frames) is built);
+      breaks = λ asked to is at. absurd (subst (IsBuiltRequest frames) is built);
+      maps = λ size prot flags place is asked few free. absurd (subst (IsBuiltRequest frames) is built);
+      unmaps = λ place size is within. absurd (subst (IsBuiltRequest frames) is built);
     }
 
 pub act_inside : (s : State) (h : ℕ) → is_built s h ≡ true → is_ready_at s h ≡ true → 0 < frames_at s h → StaysInside h (act_of s h)

@@ -46,9 +46,9 @@ asking s h call = record {
   blocked = tt;
   rouse = λ place value is. tt;
   child = λ flags stack parent tls child slot is free. tt;
-  breaks = λ to is within. tt;
-  maps = λ length prot flags place is asked few free. tt;
-  unmaps = λ place length is within. tt;
+  breaks = λ asked to is at. tt;
+  maps = λ size prot flags place is asked few free. tt;
+  unmaps = λ place size is within. tt;
 }
 
 act_asks : (s : State) (h : ℕ) (a : Act) → ActCases (Asks s) s h a

@@ -155,9 +155,9 @@ module _ (h : ℕ) (R : State → State → Type 0) (own : OwnChanges h R) where
       rouse = λ place value is. joined s (wakes s h place (low_32 value)) _ (wakes_by s place (low_32 value)) (own.closes (wakes s h place (low_32 value)));
       child = λ flags stack parent tls child slot is free.
           joined s (clones s h slot flags stack parent tls child) _ (clones_by s flags stack parent tls child slot) (own.closes (clones s h slot flags stack parent tls child));
-      breaks = λ to is within. breaks_by s to;
-      maps = λ length prot flags place is asked few free. maps_by s place (pages_in length) (mapped_rights prot);
-      unmaps = λ place length is within. unmaps_by s place (pages_in length);
+      breaks = λ asked to is at. breaks_by s to;
+      maps = λ size prot flags place is asked few free. maps_by s place (pages_in size) (mapped_rights prot);
+      unmaps = λ place size is within. unmaps_by s place (pages_in size);
     }
 
     -- every act of a hart alone
