@@ -26,3 +26,5 @@ pub mod Lone
 pub mod Readiness
 pub mod Fetches
 mod RunsShown
+mod RescueShown
+pub mod RefusedRescues
