@@ -1,6 +1,6 @@
 -- What entries leave of a state: records, ending and what is left of the points apart, all but memory
 -- and harts stays.
-use Rattle.std.proofs.Common.{◌≡◌, ℕ, Bool, true, false, ◌&&◌, ◌==◌, nat_lt, if◌then◌else◌, List, [], ◌∷◌, ◌++◌, map, find, Option, Some, None, option_map, unwrap_or, refl, ap, sym, ◌∙◌}
+use Rattle.std.proofs.Common.{◌≡◌, ℕ, Bool, true, false, ◌&&◌, ◌==◌, nat_lt, if◌then◌else◌, List, [], ◌∷◌, ◌++◌, map, find, Option, Some, None, option_map, unwrap_or, refl, ap, sym, ◌∙◌, subst}
 use Rattle.std.proofs.lemmas.List.{append_assoc, append-nil}
 use Rattle.guest_words.specs.declared.ending.Ending.{Ending}
 use Rattle.guest_words.specs.declared.fault.Fault.{Fault as FaultAt}
@@ -16,11 +16,13 @@ use Rattle.guest_words.specs.declared.record.Way.TheVariants as way
 use Rattle.guest_words.specs.Act.{act_of}
 use Rattle.guest_words.specs.State.{State, enter, frames_at}
 use Rattle.run_history.specs.declared.entry.Entry.{Entry, Ran, Entered, Called, Rescued', Ended, Row_of-Entry, end_of-Entry, more_of-Entry}
+use Rattle.run_history.specs.declared.entry.Entry.TheViews as v
 use Rattle.run_history.specs.After.{after, after_row, called, next, placed, ran, read_place, rescued_from, state_after, with_record}
 use Rattle.run_history.specs.Counts.{records_of, records_of_row, records_of_all}
 use Rattle.run_history.specs.Legal.{is_of, legal, legal_inside}
 use Rattle.run_history.specs.Run.{is_ended}
 use Rattle.run_history.proofs.Ands.{and_left, and_right, if_by}
+use Rattle.run_history.proofs.Insides.{after-Rescued}
 use Rattle.run_history.proofs.Walk.{Leads, OtherChanges, OwnChanges, next_walked, ran_walked, walked_act}
 
 -- the parts of a state that an ordinary act leaves, steps apart
@@ -88,6 +90,23 @@ enter_keeps s h p = refl
 pub rescued_keeps : (s : State) (h : ℕ) (p : PointRef) (f : FaultAt) (t : State) → rest_of (rescued_from s h p f t) ≡ record (rest_of s) { records = t.records; points = spent t.points p.entry }
 unfolding rescued_from
 rescued_keeps s h p f t = refl
+
+-- whatever a rescued call did to memory, breaks, waiting list and tids is as at its entry again
+
+pub record TakenBack (s t : State) : Type 0 where
+  pub memory : t.memory ≡ s.memory
+  pub low : t.low ≡ s.low
+  pub brk : t.brk ≡ s.brk
+  pub waiting : t.waiting ≡ s.waiting
+  pub next_tid : t.next_tid ≡ s.next_tid
+  pub ending : t.ending ≡ s.ending
+
+from_rescued : (s : State) (h : ℕ) (p : PointRef) (f : FaultAt) (t : State) → TakenBack s (rescued_from s h p f t)
+unfolding rescued_from
+from_rescued s h p f t = record { memory = refl; low = refl; brk = refl; waiting = refl; next_tid = refl; ending = refl }
+
+pub rescue_takes_back : (s : State) (h : ℕ) (p : PointRef) (f : FaultAt) (inside : List Entry) → TakenBack s (after s (v.Rescued h p f inside))
+rescue_takes_back s h p f inside = subst (TakenBack s) (sym (after-Rescued s h p f inside)) (from_rescued s h p f (state_after (enter s h p) inside))
 
 -- the records after an entry are those before it and its own
 mutual

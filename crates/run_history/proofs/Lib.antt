@@ -28,3 +28,4 @@ pub mod Fetches
 mod RunsShown
 mod RescueShown
 pub mod RefusedRescues
+mod TakenBackShown
