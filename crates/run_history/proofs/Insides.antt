@@ -18,7 +18,7 @@ out-Rescued h p f xs = ap out-Entry (sym (rolls-Rescued h p f xs)) ∙ out-roll-
 
 -- the number of entries
 
-size_of_row-is : (n : _) (row : Row_of-Entry n) → size_of_row row ≡ size_of_all (items-the_row-Entry n row)
+pub size_of_row-is : (n : _) (row : Row_of-Entry n) → size_of_row row ≡ size_of_all (items-the_row-Entry n row)
 unfolding size_of
 size_of_row-is n end_of-Entry = refl
 size_of_row-is n (more_of-Entry e rest) = ap (λ m. size_of e + m) (size_of_row-is _ rest)
@@ -40,7 +40,7 @@ size_of-Rescued h p f xs = size_of-at _ ∙ ap size_at (out-Rescued h p f xs)
 
 -- the steps
 
-steps_of_row-is : (n : _) (row : Row_of-Entry n) → steps_of_row row ≡ steps_of_all (items-the_row-Entry n row)
+pub steps_of_row-is : (n : _) (row : Row_of-Entry n) → steps_of_row row ≡ steps_of_all (items-the_row-Entry n row)
 unfolding steps_of
 steps_of_row-is n end_of-Entry = refl
 steps_of_row-is n (more_of-Entry e rest) = ap (λ m. steps_of e + m) (steps_of_row-is _ rest)
@@ -64,7 +64,7 @@ steps_of-Rescued h p f xs = steps_of-at _ ∙ ap steps_at (out-Rescued h p f xs)
 
 -- the records
 
-records_of_row-is : (n : _) (row : Row_of-Entry n) → records_of_row row ≡ records_of_all (items-the_row-Entry n row)
+pub records_of_row-is : (n : _) (row : Row_of-Entry n) → records_of_row row ≡ records_of_all (items-the_row-Entry n row)
 unfolding records_of
 records_of_row-is n end_of-Entry = refl
 records_of_row-is n (more_of-Entry e rest) = ap (λ m. records_of e ++ m) (records_of_row-is _ rest)
@@ -87,7 +87,7 @@ records_of-Rescued h p f xs = records_of-at _ ∙ ap records_at (out-Rescued h p
 
 -- the state after
 
-after_row-is : (n : _) (row : Row_of-Entry n) (s : State) → after_row s row ≡ state_after s (items-the_row-Entry n row)
+pub after_row-is : (n : _) (row : Row_of-Entry n) (s : State) → after_row s row ≡ state_after s (items-the_row-Entry n row)
 unfolding after
 after_row-is n end_of-Entry s = refl
 after_row-is n (more_of-Entry e rest) s = after_row-is _ rest (after s e)
@@ -114,7 +114,7 @@ after-Rescued s h p f xs = after-at _ s ∙ ap (after_at s) (out-Rescued h p f x
 
 -- legal entries
 
-legal_row-is : (n : _) (row : Row_of-Entry n) (s : State) (h d : ℕ) → legal_row s h d row ≡ legal_inside s h d (items-the_row-Entry n row)
+pub legal_row-is : (n : _) (row : Row_of-Entry n) (s : State) (h d : ℕ) → legal_row s h d row ≡ legal_inside s h d (items-the_row-Entry n row)
 unfolding legal
 legal_row-is n end_of-Entry s h d = refl
 legal_row-is n (more_of-Entry e rest) s h d = ap (λ b. is_of h e && legal s e && nat_lt d (frames_at (after s e) h) && b) (legal_row-is _ rest (after s e) h d)

@@ -29,3 +29,4 @@ mod RunsShown
 mod RescueShown
 pub mod RefusedRescues
 mod TakenBackShown
+pub mod OneMore

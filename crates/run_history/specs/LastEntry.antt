@@ -1,5 +1,5 @@
 -- The last entry of a history, where it is a Ran that can be made longer.
-use Rattle.std.specs.Prelude.{◌+◌, ◌^◌, Bool, false, nat_lt, List, [], ◌∷◌}
+use Rattle.std.specs.Prelude.{ℕ, ◌+◌, ◌^◌, Bool, false, nat_lt, if◌then◌else◌, List, [], ◌∷◌, ◌++◌}
 use Rattle.run_history.specs.declared.entry.Entry.{Entry, Ran}
 
 -- a Ran whose count can grow
@@ -23,3 +23,7 @@ abbrev pub lengthened : List Entry → List Entry
 lengthened [] = []
 lengthened (e ∷ []) = longer e ∷ []
 lengthened (e ∷ (f ∷ rest)) = e ∷ lengthened (f ∷ rest)
+
+-- one act more: the last entry is made longer where it is a Ran, and else a Ran goes last
+abbrev pub with_act : ℕ → List Entry → List Entry
+with_act h es = if ends_in_ran es then lengthened es else es ++ Ran h 1 ∷ []
