@@ -1,11 +1,9 @@
 pub mod Calls
 pub mod Entries
-pub mod Faults
 pub mod Going
 pub mod Keeping
 pub mod OpenCalls
 pub mod Readiness
 pub mod Turning
-mod Within
 mod Nearing
 mod Lone

@@ -10,10 +10,6 @@ use Rattle.guest_words.specs.Endings.{is_budget_spent}
 use Rattle.plain_machine.specs.Built.{seen}
 use Rattle.plain_machine.specs.Legal.{is_ordinary, is_ready_at}
 
--- the second state, with one step more than the first
-abbrev pub counted : State → State → State
-counted s t = record t { steps = s.steps + 1 }
-
 -- the bytes of a store, if there is one, end within the address space
 abbrev pub HasRoom : Option Write → Type 0
 HasRoom None = Unit {0}
@@ -31,7 +27,3 @@ abbrev pub IsMade : Act → Type 0
 IsMade (act.Next hart write) = HasRoom write
 IsMade (act.Call call) = IsServed call
 IsMade _ = Unit {0}
-
--- a hart can go on by an ordinary act
-abbrev pub can_go : ℕ → State → Bool
-can_go h s = not (is_budget_spent s) && is_ready_at s h && is_ordinary (seen s h)
