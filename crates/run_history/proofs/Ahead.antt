@@ -14,7 +14,7 @@ use Rattle.guest_words.specs.State.{State, changed, closed, enter, frames_at, on
 use Rattle.run_history.specs.declared.entry.Entry.{Ran, Entered, Called}
 use Rattle.run_history.specs.After.{after, called, given_back, ran, rescued_from}
 use Rattle.run_history.specs.Ahead.{ahead, arrival_ahead}
-use Rattle.run_history.specs.Legal.{can_run, is_alone, is_going, is_ready_at, legal, may_act}
+use Rattle.run_history.specs.Legal.{can_run, is_going, is_ready_at, legal, may_act}
 use Rattle.run_history.proofs.Ands.{and_left, and_right}
 use Rattle.run_history.proofs.Arrivals.{arrival_arrived}
 use Rattle.run_history.proofs.EnteredFrames.{frames_entered_ready}

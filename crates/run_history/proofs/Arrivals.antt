@@ -1,5 +1,5 @@
 -- An arrival: only a hart that has just jumped to the entry of an active point makes one.
-use Rattle.std.proofs.Common.{◌≡◌, ℕ, List, Bool, true, false, ◌&&◌, ◌==◌, nat_lt, if◌then◌else◌, length, Option, Some, None, refl, ap, sym, ◌∙◌, slice_get}
+use Rattle.std.proofs.Common.{◌≡◌, ℕ, List, Bool, true, false, ◌&&◌, nat_lt, if◌then◌else◌, length, Some, None, ap, sym, ◌∙◌, slice_get}
 use Rattle.guest_words.specs.declared.act.Act.{Act}
 use Rattle.guest_words.specs.declared.act.Act.TheVariants as act
 use Rattle.guest_words.specs.declared.call.Request.{Request as Call}
@@ -16,7 +16,7 @@ use Rattle.guest_words.specs.State.{State}
 use Rattle.run_history.specs.Ahead.{arrival_ahead}
 use Rattle.run_history.specs.Legal.{is_arrival}
 use Rattle.run_history.proofs.Ands.{same_number}
-use Rattle.run_history.proofs.CallCases.{ActCases, CallCases, act_of_by}
+use Rattle.run_history.proofs.CallCases.{CallCases, act_of_by}
 use Rattle.run_history.proofs.InstCases.{InstCases, arrived-jumped, hart_act_by}
 
 -- a hart arrives at a point: its slot, and the arrival there

@@ -1,8 +1,8 @@
 -- Which acts are built: none makes, wakes or keeps another hart or moves a page, and under a frame
 -- none arrives or exits.
-use Rattle.std.proofs.Common.{◌≡◌, ℕ, ◌<◌, Bool, true, false, not, ◌&&◌, ◌||◌, ◌==◌, nat_lt, if◌then◌else◌, List, Option, Some, None, refl, ap, sym, ◌∙◌, subst, arith}
+use Rattle.std.proofs.Common.{◌≡◌, ℕ, Bool, true, false, not, ◌&&◌, ◌||◌, ◌==◌, nat_lt, List, Option, Some, None, refl, ap, sym, ◌∙◌, arith}
 use Rattle.std.proofs.lemmas.Bool.Decides.{nat_tests}
-use Rattle.guest_words.specs.declared.abi.TheConstants.{A0, A1, A2, A3, A4, A7}
+use Rattle.guest_words.specs.declared.abi.TheConstants.{A7}
 use Rattle.guest_words.specs.declared.act.Act.{Act}
 use Rattle.guest_words.specs.declared.act.Act.TheVariants as act
 use Rattle.guest_words.specs.declared.call.Request.{Request as Call}
@@ -10,7 +10,6 @@ use Rattle.guest_words.specs.declared.call.Request.TheVariants as request
 use Rattle.guest_words.specs.declared.class.Class.{Class}
 use Rattle.guest_words.specs.declared.class.Class.TheVariants as class
 use Rattle.guest_words.specs.declared.hart.Hart.{Hart}
-use Rattle.guest_words.specs.declared.inst.Inst.{Inst}
 use Rattle.guest_words.specs.declared.linux.TheConstants.{BRK, CLONE, CLOSE, EXIT, EXIT_GROUP, FUTEX, GETTID, MMAP, MUNMAP, READ, SCHED_YIELD, WRITE}
 use Rattle.guest_words.specs.declared.point.Point.{Point}
 use Rattle.guest_words.specs.declared.point.PointRef.{PointRef}

@@ -1,5 +1,5 @@
 -- What a call does, by its rules: an eliminator for what is said of the act of a hart in a state.
-use Rattle.std.proofs.Common.{◌≡◌, ℕ, ◌+◌, ◌≤◌, ◌||◌, ◌%◌, ◌^◌, ℤ, pos, Bool, true, false, not, ◌==◌, nat_lt, if◌then◌else◌, length, Option, Some, None, refl, ap, sym, ◌∙◌, slice_get, arith}
+use Rattle.std.proofs.Common.{◌≡◌, ℕ, ◌+◌, ◌≤◌, ◌||◌, ◌%◌, ℤ, pos, Bool, true, false, not, ◌==◌, nat_lt, if◌then◌else◌, length, Option, Some, None, refl, slice_get, arith}
 use Rattle.std.proofs.lemmas.Bool.Decides.{nat_tests}
 use Rattle.guest_words.specs.declared.act.Act.{Act}
 use Rattle.guest_words.specs.declared.act.Act.TheVariants as act

@@ -1,5 +1,5 @@
 -- The fault that a ready hart is about to make is what its act and its pc say.
-use Rattle.std.proofs.Common.{◌≡◌, ℕ, Bool, true, false, ◌&&◌, if◌then◌else◌, Option, Some, None, refl, ap, sym, ◌∙◌, slice_get, eq-eqb}
+use Rattle.std.proofs.Common.{◌≡◌, ℕ, Bool, true, false, if◌then◌else◌, Option, Some, None, refl, ap, sym, ◌∙◌, slice_get, eq-eqb}
 use Rattle.guest_words.specs.declared.fault.Fault.{Fault as FaultAt}
 use Rattle.guest_words.specs.declared.hart.Slot.{Slot}
 use Rattle.guest_words.specs.Act.{StateAct, Ordinary, Fault, Request, Arrival, End, Absent, act_of}
@@ -7,7 +7,6 @@ use Rattle.guest_words.specs.Endings.{faults, is_fault, stands_at}
 use Rattle.guest_words.specs.State.{State}
 use Rattle.run_history.specs.Built.{is_built, is_built_slot}
 use Rattle.run_history.specs.Faults.{fault_by, fault_of, pc_at, pc_in}
-use Rattle.run_history.specs.Legal.{is_ready_at, is_ready_slot}
 use Rattle.run_history.proofs.Ands.{and_both}
 use Rattle.run_history.proofs.Entries.{same_name}
 

@@ -5,7 +5,6 @@ use Rattle.std.proofs.lemmas.List.{append_assoc, append-nil}
 use Rattle.guest_words.specs.declared.ending.Ending.{Ending}
 use Rattle.guest_words.specs.declared.fault.Fault.{Fault as FaultAt}
 use Rattle.guest_words.specs.declared.fault.FaultName.{FaultName}
-use Rattle.guest_words.specs.declared.point.Ret.{Ret}
 use Rattle.guest_words.specs.declared.point.Ret.TheVariants.{Void}
 use Rattle.guest_words.specs.declared.point.Point.{Point}
 use Rattle.guest_words.specs.Points.{code_in, code_of, spent, spent_once}

@@ -1,5 +1,5 @@
 -- The last entry of a list, taken off and made longer.
-use Rattle.std.proofs.Common.{◌≡◌, ℕ, suc, ◌+◌, ◌-◌, ◌≤◌, Bool, false, if◌then◌else◌, List, [], ◌∷◌, ◌++◌, length, length-append, Option, Some, None, slice_get, refl, ap, sym, ◌∙◌, arith}
+use Rattle.std.proofs.Common.{◌≡◌, ℕ, suc, ◌+◌, ◌-◌, ◌≤◌, Bool, false, List, [], ◌∷◌, ◌++◌, length, length-append, Option, Some, None, slice_get, refl, ap, sym, ◌∙◌, arith}
 use Rattle.run_history.specs.declared.entry.Entry.{Entry, Ran}
 use Rattle.run_history.specs.LastEntry.{can_lengthen, longer, ends_in_ran, lengthened, with_act}
 use Rattle.run_history.proofs.Ands.{if_by}

@@ -1,14 +1,12 @@
 -- A hart that is alone at the start stays alone, since no act that is built makes or wakes another.
-use Rattle.std.proofs.Common.{◌≡◌, ◌≢◌, ℕ, zero, suc, ◌+◌, Bool, true, false, not, ◌&&◌, ◌||◌, ◌==◌, nat_lt, List, [], ◌∷◌, length, take, drop, inl, inr, Option, Some, None, option_map, refl, ap, sym, ◌∙◌, slice_get, subst, arith}
+use Rattle.std.proofs.Common.{◌≡◌, ◌≢◌, ℕ, zero, suc, ◌+◌, Bool, true, false, not, ◌&&◌, ◌||◌, nat_lt, List, [], ◌∷◌, length, take, drop, inl, inr, Option, Some, None, option_map, refl, ap, sym, ◌∙◌, slice_get, subst, arith}
 use Rattle.std.proofs.lemmas.Option.{slice_get-map}
 use Rattle.std.specs.List.{list_any}
-use Rattle.guest_words.specs.declared.act.Act.{Act}
-use Rattle.guest_words.specs.declared.act.Act.TheVariants as act
 use Rattle.guest_words.specs.declared.call.Request.{Request as Call}
 use Rattle.guest_words.specs.declared.hart.Hart.{Hart}
 use Rattle.guest_words.specs.declared.hart.HartState.{HartState}
 use Rattle.guest_words.specs.declared.hart.Slot.{Slot}
-use Rattle.guest_words.specs.Act.{StateAct, act_of}
+use Rattle.guest_words.specs.Act.{act_of}
 use Rattle.guest_words.specs.CallChanges.{answered, any_other, departed, is_live}
 use Rattle.guest_words.specs.Endings.{is_budget_spent, is_stuck}
 use Rattle.guest_words.specs.Harts.{is_ready, is_waiting, opened}
@@ -20,7 +18,7 @@ use Rattle.run_history.specs.Legal.{can_go, can_run, is_alone, is_going, is_ordi
 use Rattle.run_history.specs.Run.{is_run}
 use Rattle.run_history.proofs.Ands.{and_left, and_right, neither, or_left, or_right, same_or}
 use Rattle.run_history.proofs.BuiltActs.{IsBuiltAct, IsBuiltRequest, hart_act_built}
-use Rattle.run_history.proofs.CallCases.{ActCases, CallCases, built_act_by}
+use Rattle.run_history.proofs.CallCases.{CallCases, built_act_by}
 use Rattle.run_history.proofs.Slots.{changed-other}
 use Rattle.run_history.proofs.Walk.{Leads, OwnChanges, breaks_by, called_walked, entered_walked, maps_by, next_by, next_walked, rescued_walked, unmaps_by, value_by}
 

@@ -1,6 +1,6 @@
 -- A hart with a frame open stays ready over each act that is built, and its act is neither an
 -- arrival nor an end.
-use Rattle.std.proofs.Common.{◌≡◌, ℕ, ◌<◌, ℤ, Bool, true, false, ◌&&◌, ◌==◌, nat_lt, if◌then◌else◌, List, length, Option, Some, None, option_map, refl, ap, sym, ◌∙◌, slice_get, slice_set, subst, arith}
+use Rattle.std.proofs.Common.{◌≡◌, ℕ, ◌<◌, ℤ, true, List, length, Option, Some, None, option_map, ap, ◌∙◌, slice_get, subst, arith}
 use Rattle.std.proofs.lemmas.Option.{slice_get-map}
 use Rattle.guest_words.specs.declared.act.Act.{Act}
 use Rattle.guest_words.specs.declared.act.Act.TheVariants as act
@@ -21,7 +21,7 @@ use Rattle.guest_words.specs.Space.{Space}
 use Rattle.guest_words.specs.State.{State, changed, closed, enter, frame_count, frames_at, on_each, on_hart, with_closed, with_hart}
 use Rattle.run_history.specs.After.{called, moved, next, placed, read_place, with_record}
 use Rattle.run_history.specs.Built.{is_built}
-use Rattle.run_history.specs.Legal.{is_ordinary, is_ready_at, is_ready_slot}
+use Rattle.run_history.specs.Legal.{is_ready_at, is_ready_slot}
 use Rattle.run_history.proofs.BuiltActs.{IsBuiltAct, IsBuiltRequest, hart_act_built}
 use Rattle.run_history.proofs.CallCases.{CallCases, built_act_by}
 use Rattle.run_history.proofs.InstCases.{InstCases, hart_act_by}
@@ -102,19 +102,19 @@ inside_call s h call frames framed ready built =
 pub act_inside : (s : State) (h : ℕ) → is_built s h ≡ true → is_ready_at s h ≡ true → 0 < frames_at s h → StaysInside h (act_of s h)
 act_inside s h built ready framed =
     built_act_by (StaysInside h) s h built (λ slot is at.
-        let frames = length slot.frames in
-        let some : 0 < frames = subst (λ (o : Option Slot). 0 < frame_count o) is framed in
-        let own : is_ready slot.hart.state ≡ true = subst (λ (o : Option Slot). is_ready_slot o ≡ true) is ready in
-        let could = hart_act_built s.memory s.points frames slot.hart at in
-        record {
-          next = λ hart write does.
-              let same : hart.state ≡ slot.hart.state = subst (LeavesReady slot.hart) does (leaves_ready s.memory s.points frames slot.hart) in
-              let t : State = with_hart s h (λ before. hart) in
-              closed_ready (written t write) h (written_ready t h write (hart_ready s h (λ before. hart) (λ before old. ap is_ready same ∙ own) ready));
-          fault = λ name. tt;
-          call = λ call does. inside_call s h call frames some ready (subst (IsBuiltAct frames) does could);
-          arrived = λ point does. let none : frames ≡ 0 = subst (IsBuiltAct frames) does could in omega (arith, some, none);
-        })
+    let frames = length slot.frames in
+    let some : 0 < frames = subst (λ (o : Option Slot). 0 < frame_count o) is framed in
+    let own : is_ready slot.hart.state ≡ true = subst (λ (o : Option Slot). is_ready_slot o ≡ true) is ready in
+    let could = hart_act_built s.memory s.points frames slot.hart at in
+    record {
+      next = λ hart write does.
+          let same : hart.state ≡ slot.hart.state = subst (LeavesReady slot.hart) does (leaves_ready s.memory s.points frames slot.hart) in
+          let t : State = with_hart s h (λ before. hart) in
+          closed_ready (written t write) h (written_ready t h write (hart_ready s h (λ before. hart) (λ before old. ap is_ready same ∙ own) ready));
+      fault = λ name. tt;
+      call = λ call does. inside_call s h call frames some ready (subst (IsBuiltAct frames) does could);
+      arrived = λ point does. let none : frames ≡ 0 = subst (IsBuiltAct frames) does could in omega (arith, some, none);
+    })
 
 -- the hart stays ready over an ordinary act
 pub next_ready : (s : State) (h : ℕ) → is_built s h ≡ true → is_ready_at s h ≡ true → 0 < frames_at s h → is_ready_at (next s h) h ≡ true

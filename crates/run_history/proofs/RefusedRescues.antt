@@ -1,5 +1,5 @@
 -- Why a rescue has no licence: each reason makes its entry illegal, also where it lies in an inside.
-use Rattle.std.proofs.Common.{◌≡◌, ℕ, ◌+◌, Bool, true, false, not, ◌&&◌, ◌==◌, nat_lt, List, [], ◌∷◌, ◌++◌, refl, ap, ◌∙◌, slice_get}
+use Rattle.std.proofs.Common.{◌≡◌, ℕ, ◌+◌, Bool, true, false, not, ◌&&◌, ◌==◌, nat_lt, List, ◌∷◌, ◌++◌, refl, ap, ◌∙◌, slice_get}
 use Rattle.guest_words.specs.declared.ending.Ending.{Ending}
 use Rattle.guest_words.specs.declared.fault.Fault.{Fault as FaultAt}
 use Rattle.guest_words.specs.declared.fault.FaultName.{FaultName}
@@ -14,7 +14,7 @@ use Rattle.run_history.specs.After.{after, state_after}
 use Rattle.run_history.specs.Built.{is_built}
 use Rattle.run_history.specs.Legal.{ends_in, is_arrival, is_licensed, is_of, legal, legal_inside, may_act}
 use Rattle.run_history.proofs.Appends.{legal_inside-append}
-use Rattle.run_history.proofs.Insides.{is_of-Rescued, legal-Rescued}
+use Rattle.run_history.proofs.Insides.{legal-Rescued}
 
 and-right_false : (a b : Bool) → b ≡ false → (a && b) ≡ false
 and-right_false true b absent = absent

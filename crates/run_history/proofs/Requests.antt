@@ -1,6 +1,6 @@
 -- A request that a hart makes of a device: its descriptor, its place and its bytes, and the records
 -- that fit it.
-use Rattle.std.proofs.Common.{◌≡◌, ◌≢◌, ℕ, zero, suc, ◌+◌, ◌≤◌, ◌^◌, Bool, true, false, not, ◌&&◌, ◌||◌, ◌==◌, nat_eq, nat_le, length, refl, ap, subst, arith, lit≤}
+use Rattle.std.proofs.Common.{◌≡◌, ◌≢◌, ℕ, ◌+◌, ◌≤◌, ◌^◌, Bool, true, false, not, ◌&&◌, ◌||◌, ◌==◌, nat_eq, nat_le, length, refl, subst, arith, lit≤}
 use Rattle.std.proofs.lemmas.Bool.Decides.{nat_tests}
 use Rattle.std.specs.Cmp.Lexicographic.{as_long}
 use Rattle.guest_words.specs.declared.act.Act.{Act}
@@ -9,7 +9,7 @@ use Rattle.guest_words.specs.declared.record.Record.{Record}
 use Rattle.guest_words.specs.declared.record.Way.{Way}
 use Rattle.guest_words.specs.declared.record.Way.TheVariants as way
 use Rattle.guest_words.specs.Act.{StateAct, Ordinary, Fault, Request, Arrival, End, Absent, act_of, fits, is_failure, is_served}
-use Rattle.guest_words.specs.Space.{Space, bytes_at}
+use Rattle.guest_words.specs.Space.{bytes_at}
 use Rattle.guest_words.specs.State.{State, is_open}
 use Rattle.run_history.specs.After.{read_place}
 use Rattle.run_history.specs.Requests.{IsServable}

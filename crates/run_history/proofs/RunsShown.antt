@@ -8,7 +8,6 @@ use Rattle.guest_words.specs.declared.image.Cell.{Cell}
 use Rattle.guest_words.specs.Act.{Ordinary, End, act_of, act_of_call, in_state}
 use Rattle.guest_words.specs.CallChanges.{facts_of}
 use Rattle.guest_words.specs.Calls.{reply_of, request_of}
-use Rattle.guest_words.specs.Endings.{is_end}
 use Rattle.guest_words.specs.HartAct.{act_of_inst, arrived_or, fetched_act, hart_act}
 use Rattle.guest_words.specs.Harts.{close_frames}
 use Rattle.guest_words.specs.Instructions.{instruction_of, row_of}
@@ -18,9 +17,9 @@ use Rattle.guest_words.specs.Start.{first_hart, gathered, slot_of}
 use Rattle.guest_words.specs.State.{State, changed}
 use Rattle.guest_words.proofs.StartMemory.{get-gathered}
 use Rattle.run_history.specs.declared.entry.Entry.{Ran, Ended}
-use Rattle.run_history.specs.After.{after, ran}
+use Rattle.run_history.specs.After.{after}
 use Rattle.run_history.specs.Built.{is_built, is_built_at, is_built_inst}
-use Rattle.run_history.specs.Legal.{can_run, legal}
+use Rattle.run_history.specs.Legal.{can_run}
 use Rattle.run_history.specs.Run.{IsRun, is_run}
 use Rattle.run_history.proofs.Ands.{and_both}
 use Rattle.run_history.proofs.Entries.{legal-Exit, legal-Ran}

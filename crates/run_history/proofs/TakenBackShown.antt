@@ -1,18 +1,17 @@
 -- What a rescue leaves: frames outside that are over close with it, and pages and breaks are as at
 -- the entry.
-use Rattle.std.proofs.Common.{◌≡◌, ◌≢◌, ℕ, Bool, true, false, if◌then◌else◌, List, [], ◌∷◌, refl, ap, ◌∙◌, Some, None, pos, slice_set, replicate}
+use Rattle.std.proofs.Common.{◌≡◌, ℕ, Bool, true, false, if◌then◌else◌, List, [], ◌∷◌, refl, ap, ◌∙◌, Some, None, slice_set, replicate}
 use Rattle.std.specs.FinMap.{get}
 use Rattle.guest_words.specs.declared.fault.Fault.{Fault as FaultAt}
 use Rattle.guest_words.specs.declared.fault.FaultName.TheVariants.{Breakpoint}
 use Rattle.guest_words.specs.declared.hart.Frame.{Frame}
 use Rattle.guest_words.specs.declared.hart.Hart.{Hart}
-use Rattle.guest_words.specs.declared.hart.Slot.{Slot}
 use Rattle.guest_words.specs.declared.image.Cell.{Cell}
 use Rattle.guest_words.specs.declared.image.Rights.{Rights}
 use Rattle.guest_words.specs.declared.point.Kind.TheVariants.{Blocking}
 use Rattle.guest_words.specs.declared.point.Point.{Point}
 use Rattle.guest_words.specs.declared.point.PointRef.{PointRef}
-use Rattle.guest_words.specs.declared.point.Ret.TheVariants.{Code, Void}
+use Rattle.guest_words.specs.declared.point.Ret.TheVariants.{Code}
 use Rattle.guest_words.specs.CallChanges.{breaks, maps, unmaps}
 use Rattle.guest_words.specs.Harts.{close_frames}
 use Rattle.guest_words.specs.Space.{Space, with_zeros, without, zero_cell}

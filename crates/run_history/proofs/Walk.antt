@@ -1,6 +1,6 @@
 -- The walk over an act: what holds between a state and itself with one part changed, and of two
 -- changes where it holds of each, holds between a state and the one that an act or an entry gives.
-use Rattle.std.proofs.Common.{◌≡◌, ℕ, zero, suc, ◌+◌, ◌-◌, ◌*◌, ◌%◌, ◌^◌, not, ◌&&◌, ◌==◌, List, [], ◌∷◌, ◌++◌, length, Option, Some, None, refl, slice_get, pos}
+use Rattle.std.proofs.Common.{◌≡◌, ℕ, zero, suc, ◌+◌, ◌-◌, ◌*◌, not, ◌&&◌, ◌==◌, List, [], ◌∷◌, ◌++◌, length, Option, Some, None, refl, slice_get, pos}
 use Rattle.guest_words.specs.declared.act.Act.{Act}
 use Rattle.guest_words.specs.declared.act.Write.{Write}
 use Rattle.guest_words.specs.declared.call.Request.{Request as Call}
