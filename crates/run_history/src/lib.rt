@@ -4,6 +4,8 @@
 
 mod entry;
 mod history;
+#[cfg(test)]
+mod tests;
 
 pub use entry::Entry;
 pub use history::History;
