@@ -5,3 +5,4 @@ pub mod Keeping
 pub mod OpenPorts
 pub mod PortEnds
 pub mod Serving
+pub mod Walks
