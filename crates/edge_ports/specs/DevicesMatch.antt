@@ -1,6 +1,6 @@
 -- The devices against the records of a run: what was told at the start, what is told now, and the
 -- records of the calls between, by descriptor.
-use Rattle.std.specs.Prelude.{◌≡◌, ℕ, ◌+◌, ◌-◌, ◌≤◌, ◌==◌, nat_le, List, [], ◌∷◌, ◌++◌, length, drop, map, filter, count_by, ◌&&◌, ◌||◌, IfSome}
+use Rattle.std.specs.Prelude.{◌≡◌, ℕ, ◌+◌, ◌-◌, ◌<◌, ◌≤◌, ◌==◌, nat_le, List, [], ◌∷◌, ◌++◌, length, drop, map, filter, count_by, ◌&&◌, ◌||◌, IfSome}
 use Rattle.std.specs.List.{flat_map}
 use Rattle.std.specs.Ordering.{int_eq}
 use Rattle.guest_words.specs.declared.record.Record.{Record}
@@ -56,5 +56,5 @@ pub record DevicesMatch (start now : Seen) (before : ℕ) (records : List Record
   pub closed : (fd : ℕ) → is_shut now fd ≡ (is_shut start fd || is_closed fd records)
   pub shut : now.shut ≡ start.shut ++ ports_closed records
   -- and each port was closed once for each of its closes
-  pub closes : (fd : ℕ) → 3 ≤ fd
+  pub closes : (fd : ℕ) → 3 ≤ fd → fd < 3 + length start.ports
       → (end_at now fd).closes ≡ raised_by (closes_at fd records) (end_at start fd).closes

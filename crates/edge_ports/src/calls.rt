@@ -1,4 +1,4 @@
-ghost use Rattle.std.specs.Prelude.{◌≡◌, ◌↔◌, IsErr, IsTrue, is_err};
+ghost use Rattle.std.specs.Prelude.{◌≡◌, ◌↔◌, ◌≤◌, IsErr, IsTrue, is_err};
 ghost use Rattle.edge_ports.specs.InMemory.{counted, faulted, no_calls, numbered, IsNextFailing};
 
 use crate::failed::Failed;
@@ -37,6 +37,7 @@ impl Calls {
     pub fn begin(&mut self) -> Result<(), Failed>
         ensures refuses { IsErr result ↔ IsNextFailing self.old }
         ensures counts { self.new ≡ counted (is_err result) self.old }
+        ensures later { self.old.faults ≤ self.new.faults }
     {
         if self.number() {
             return Err(self.fail());
@@ -56,6 +57,7 @@ impl Calls {
     /// Lets a call that has begun fail for another cause.
     pub fn fail(&mut self) -> Failed
         ensures counts { self.new ≡ faulted self.old }
+        ensures later { self.old.faults ≤ self.new.faults }
     {
         self.faults = self.faults.saturating_add(1);
         Failed

@@ -113,12 +113,7 @@ fn length_of<F: OpenFile>(file: &F, so_far: u64) -> u64
     }
 }
 
-fn save_file<R: Files>(
-    files: &R,
-    alloc: Global,
-    name: &str,
-    bytes: &[u8],
-) -> Result<(), ShelfFault>
+fn save_file<R: Files>(files: &R, alloc: Global, name: &str, bytes: &[u8]) -> Result<(), ShelfFault>
     ensures short { is_long result ≡ false }
 {
     let Ok(beside) = name_beside(alloc, name) else {

@@ -11,6 +11,7 @@ mod memory_port;
 mod memory_shelf;
 mod memory_sink;
 mod memory_source;
+mod octets;
 mod port;
 mod reading;
 mod records;

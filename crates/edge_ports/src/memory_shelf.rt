@@ -4,6 +4,7 @@ ghost use Rattle.edge_ports.specs.InMemory.{counted, no_calls, numbered, IsNextF
 ghost use Rattle.edge_ports.specs.Shelves.{first_named, is_failed, is_long, shelf_of, Loads, Saves};
 
 use crate::calls::Calls;
+use crate::octets::octets;
 use crate::shelf::{Shelf, ShelfFault};
 use crate::shelf_file::ShelfFile;
 use crate::shelf_log::{Call, ShelfLog};
@@ -111,6 +112,8 @@ impl MemoryShelf {
           calls = counted (is_failed result) self.old.calls;
           longs = raised_if (is_long result) self.old.longs;
         }) }
+        ensures later { self.old.calls.faults ≤ self.new.calls.faults }
+        ensures longs_later { self.old.longs ≤ self.new.longs }
     {
         if self.calls.begin().is_err() {
             return Err(ShelfFault::Failed);
@@ -138,6 +141,7 @@ impl MemoryShelf {
           calls = numbered self.old.calls;
           save_faults = raised_if (is_failed result) self.old.save_faults;
         }) }
+        ensures later { self.old.save_faults ≤ self.new.save_faults }
     {
         if self.calls.number() {
             self.save_faults = self.save_faults.saturating_add(1);
@@ -185,7 +189,7 @@ fn copy(alloc: Global, bytes: &Bytes) -> Result<Bytes, ShelfFault>
     ensures err { IsOkUnless result ShelfFault.Memory }
 {
     match bytes.items().to_vec(alloc) {
-        Ok(copy) => Ok(Bytes::of(copy)),
+        Ok(copy) => Ok(octets(copy)),
         Err(_) => Err(ShelfFault::Memory),
     }
 }

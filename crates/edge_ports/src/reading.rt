@@ -1,6 +1,7 @@
 ghost use Rattle.std.specs.Prelude.{◌≡◌, ◌<◌, ◌≤◌, ℕ, All, length, Err, IfOk, IfSome, OnOk};
 ghost use Rattle.std.specs.Io.KnownBytes.{Consumes, IsAtEnd};
 
+use crate::octets::octets;
 use crate::shelf::ShelfFault;
 use guest_words::Bytes;
 use std::alloc::Global;
@@ -28,7 +29,7 @@ pub(crate) fn read_up_to<I: Read>(
             return Err(ShelfFault::Failed);
         };
         if count == 0 {
-            return Ok(Bytes::of(bytes));
+            return Ok(octets(bytes));
         }
         let length = bytes.len() as u64 + count as u64;
         if length > limit {

@@ -3,6 +3,7 @@ ghost use Rattle.guest_words.specs.Calls.{eio};
 ghost use Rattle.edge_ports.specs.Records.{IsClose, IsRead, IsWrite};
 
 use crate::failed::Failed;
+use crate::octets::octets;
 use guest_words::{Bytes, Record, Way};
 use std::alloc::Global;
 
@@ -34,7 +35,7 @@ pub fn read_record(fd: u64, taken: Result<usize, Failed>, mut places: Vec<u8>) -
         way: Way::Read,
         asked,
         answer,
-        bytes: Bytes::of(places),
+        bytes: octets(places),
     }
 }
 
@@ -46,26 +47,22 @@ pub fn write_record(fd: u64, put: Result<(), Failed>, bytes: Bytes) -> Record
     ensures answer { MatchResult put (λ _. result.answer ≡ pos (length bytes))
         (λ _. result.answer ≡ eio) }
 {
-    let asked = bytes.items().len();
-    let (answer, bytes) = match put {
-        Ok(()) => (asked as i64, bytes),
-        Err(Failed) => (EIO, emptied(bytes)),
+    let mut items = bytes.into_vec();
+    let asked = items.len();
+    let answer = match put {
+        Ok(()) => asked as i64,
+        Err(Failed) => {
+            items.clear();
+            EIO
+        }
     };
     Record {
         port: fd,
         way: Way::Write,
         asked: asked as u64,
         answer,
-        bytes,
+        bytes: octets(items),
     }
-}
-
-fn emptied(bytes: Bytes) -> Bytes
-    ensures none { result ≡ [] }
-{
-    let mut items = bytes.into_vec();
-    items.clear();
-    Bytes::of(items)
 }
 
 /// The record of a close.
