@@ -1,6 +1,6 @@
 pub mod Adapters
 pub mod Asked
-pub mod Calls
+pub mod AskedBy
 pub mod DevicesMatch
 pub mod End
 pub mod InMemory

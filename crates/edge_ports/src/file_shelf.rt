@@ -5,7 +5,7 @@ ghost use Rattle.edge_ports.specs.Shelves.{is_failed, is_long, untold_shelf, Loa
 
 use crate::reading::read_up_to;
 use crate::shelf::{Shelf, ShelfFault};
-use crate::shelf_log::{Call, ShelfLog};
+use crate::shelf_log::{ShelfCall, ShelfLog};
 use crate::writing::write_whole;
 use guest_words::{Bytes, MemoryWant};
 use std::alloc::Global;
@@ -40,7 +40,7 @@ impl<R: Files + Drop> Shelf for FileShelf<R> {
             Err(ShelfFault::TooLong { .. }) => self.longs = self.longs.saturating_add(1),
             _ => {}
         }
-        self.log = self.log.then(&Call::Load {
+        self.log = self.log.then(&ShelfCall::Load {
             name,
             answer: &answer,
         });
@@ -58,7 +58,7 @@ impl<R: Files + Drop> Shelf for FileShelf<R> {
         if answer == Err(ShelfFault::Failed) {
             self.save_faults = self.save_faults.saturating_add(1);
         }
-        self.log = self.log.then(&Call::Save {
+        self.log = self.log.then(&ShelfCall::Save {
             name,
             bytes,
             answer,

@@ -7,7 +7,7 @@ use crate::calls::Calls;
 use crate::octets::octets;
 use crate::shelf::{Shelf, ShelfFault};
 use crate::shelf_file::ShelfFile;
-use crate::shelf_log::{Call, ShelfLog};
+use crate::shelf_log::{ShelfCall, ShelfLog};
 use guest_words::{Bytes, MemoryWant, Name};
 use std::alloc::Global;
 use std::marker::Model;
@@ -51,7 +51,7 @@ impl Shelf for MemoryShelf {
         ensures same { self.new.files ≡ self.old.files }
     {
         let answer = self.read(alloc, name, limit);
-        self.log = self.log.then(&Call::Load {
+        self.log = self.log.then(&ShelfCall::Load {
             name,
             answer: &answer,
         });
@@ -71,7 +71,7 @@ impl Shelf for MemoryShelf {
         ensures longs { self.new.longs ≡ self.old.longs }
     {
         let answer = self.write(alloc, name, bytes);
-        self.log = self.log.then(&Call::Save {
+        self.log = self.log.then(&ShelfCall::Save {
             name,
             bytes,
             answer,

@@ -19,7 +19,7 @@ impl Model for ShelfLog {
 
 /// One call of a shelf, with its answer.
 #[derive(Clone, Copy, Drop)]
-pub(crate) enum Call<'a> {
+pub(crate) enum ShelfCall<'a> {
     Load {
         name: &'a str,
         answer: &'a Result<Bytes, ShelfFault>,
@@ -32,7 +32,7 @@ pub(crate) enum Call<'a> {
 }
 
 impl ShelfLog {
-    ghost use Rattle.edge_ports.specs.Calls.{asked_by};
+    ghost use Rattle.edge_ports.specs.AskedBy.{asked_by};
 
     pub(crate) fn new() -> ShelfLog
         ensures none { result.asked ≡ [] }
@@ -41,7 +41,7 @@ impl ShelfLog {
     }
 
     #[inline(always)]
-    pub(crate) fn then(&self, _call: &Call<'_>) -> ShelfLog
+    pub(crate) fn then(&self, _call: &ShelfCall<'_>) -> ShelfLog
         ensures more { result.asked ≡ self.now.asked ++ asked_by _call.now ∷ [] }
     {
         ShelfLog {}

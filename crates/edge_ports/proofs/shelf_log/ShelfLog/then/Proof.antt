@@ -27,8 +27,8 @@ use denote.Triple.Table.{entered}
 use denote.Triple.Walked.{says, Stays, stay_dropped, walk_of, ends_at, walk_Meets, Goes-dropped}
 use Rattle.edge_ports.proofs.Walks.{none, none_made}
 use Rattle.edge_ports.specs.contracts.shelf_log.ShelfLog as Log
-use Rattle.edge_ports.specs.contracts.shelf_log.Call as Call
-use Rattle.edge_ports.specs.Calls.{asked_by}
+use Rattle.edge_ports.specs.contracts.shelf_log.ShelfCall as Call
+use Rattle.edge_ports.specs.AskedBy.{asked_by}
 use Rattle.edge_ports.specs.contracts.shelf_log.ShelfLog.then as F
 use Rattle.edge_ports.specs.contracts.shelf_log.ShelfLog.then.Key.{name as #self}
 use Rattle.edge_ports.proofs.shelf_log.ShelfLog.then.Statement as stated
