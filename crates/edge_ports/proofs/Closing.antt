@@ -12,7 +12,7 @@ use Rattle.guest_words.specs.declared.record.Record.{Record}
 use Rattle.guest_words.specs.declared.record.Way.{Way}
 use Rattle.guest_words.specs.declared.record.Way.TheVariants.{Close}
 use Rattle.edge_ports.specs.End.{End, Came, Went, ended, raised, raised_by, raised_if, untold}
-use Rattle.guest_words.specs.Calls.{eio}
+use Rattle.guest_words.specs.declared.linux.TheConstants.{EIO}
 use Rattle.guest_words.specs.State.{is_close, is_closed}
 use Rattle.edge_ports.specs.Records.{AnswersLesser, IsClose, Serves, is_read}
 use Rattle.edge_ports.specs.Seen.{Seen, closed_at, end_at, is_shut, marked, port_shut}
@@ -154,7 +154,7 @@ close_serves fd r old new fits left given faults = record {
   left = subst (λ (l : List ℕ). Went old.left l new.left) (sym (taken-is r Close fits.way)) (subst (λ (o : Option (List ℕ)). Went old.left [] o) (sym left) (went_none old.left));
   count = counts old.left;
   given = subst (λ (l : List ℕ). Came old.given l new.given) (sym (given-is r Close fits.way)) (subst (λ (o : Option (List ℕ)). Came old.given [] o) (sym given) (came_none old.given));
-  faults = faults ∙ ap (λ (z : ℤ). raised_if (int_eq z eio) old.faults) (sym fits.answer);
+  faults = faults ∙ ap (λ (z : ℤ). raised_if (int_eq z EIO) old.faults) (sym fits.answer);
 }
   where
     reads_none : is_read r.way ≡ false

@@ -12,7 +12,7 @@ use Rattle.std.specs.Ordering.{int_eq}
 use Rattle.std.specs.declared.option.Option.{Option}
 use Rattle.guest_words.specs.declared.record.Record.{Record}
 use Rattle.edge_ports.specs.End.{End, raised_by, raised_if, Came, Went}
-use Rattle.guest_words.specs.Calls.{eio}
+use Rattle.guest_words.specs.declared.linux.TheConstants.{EIO}
 use Rattle.guest_words.specs.State.{is_close, is_closed}
 use Rattle.edge_ports.specs.Records.{AnswersLesser, IsRead, IsWrite, Serves, given_bytes, taken_bytes}
 use Rattle.edge_ports.specs.Seen.{Seen, SameBut, end_at, is_shut}
@@ -53,8 +53,8 @@ pub raise_more : (b : Bool) (n count : ℕ) → raised_if b (raised_by n count) 
 raise_more true n count = ap (λ (k : ℕ). raised_by k count) (sym (add-one n))
 raise_more false n count = let none : n ≡ n + 0 = omega arith in ap (λ (k : ℕ). raised_by k count) none
 
-failures-push : (rs : List Record) (r : Record) → failures (rs ++ r ∷ []) ≡ failures rs + cond (int_eq r.answer eio) 1 0
-failures-push rs r = omega (arith, sum_by-append (λ (x : Record). cond (int_eq x.answer eio) 1 0) rs (r ∷ []))
+failures-push : (rs : List Record) (r : Record) → failures (rs ++ r ∷ []) ≡ failures rs + cond (int_eq r.answer EIO) 1 0
+failures-push rs r = omega (arith, sum_by-append (λ (x : Record). cond (int_eq x.answer EIO) 1 0) rs (r ∷ []))
 
 -- the device that served the record
 pub end-push : (start mid now : End) (rs : List Record) (r : Record) → EndMatches start mid rs → Serves r mid now → EndMatches start now (rs ++ r ∷ [])
@@ -62,7 +62,7 @@ end-push start mid now rs r kept serves = record {
   left = subst (λ (l : List ℕ). Went start.left l now.left) (sym (flat_map-push taken_bytes rs r)) (went-append start.left mid.left now.left (flat_map taken_bytes rs) (taken_bytes r) kept.left serves.left);
   counts = counts-push start.left mid.left rs r kept.left kept.counts serves.count;
   given = subst (λ (l : List ℕ). Came start.given l now.given) (sym (flat_map-push given_bytes rs r)) (came-append start.given mid.given now.given (flat_map given_bytes rs) (given_bytes r) kept.given serves.given);
-  faults = serves.faults ∙ ap (λ (n : ℕ). raised_if (int_eq r.answer eio) n) kept.faults ∙ raise_more (int_eq r.answer eio) (failures rs) start.faults
+  faults = serves.faults ∙ ap (λ (n : ℕ). raised_if (int_eq r.answer EIO) n) kept.faults ∙ raise_more (int_eq r.answer EIO) (failures rs) start.faults
       ∙ ap (λ (n : ℕ). raised_by n start.faults) (sym (failures-push rs r));
 }
 

@@ -4,7 +4,7 @@ use Rattle.std.specs.Prelude.{◌≡◌, ℕ, ◌+◌, ◌-◌, ◌<◌, ◌≤�
 use Rattle.std.specs.List.{flat_map}
 use Rattle.std.specs.Ordering.{int_eq}
 use Rattle.guest_words.specs.declared.record.Record.{Record}
-use Rattle.guest_words.specs.Calls.{eio}
+use Rattle.guest_words.specs.declared.linux.TheConstants.{EIO}
 use Rattle.guest_words.specs.State.{is_close, is_closed}
 use Rattle.edge_ports.specs.End.{End, raised_by, Came, Went}
 use Rattle.edge_ports.specs.Records.{AnswersLesser, given_bytes, taken_bytes}
@@ -16,7 +16,7 @@ records_at fd records = filter (λ r. r.port == fd) records
 
 -- how many calls failed
 abbrev pub failures : List Record → ℕ
-failures records = count_by (λ r. int_eq r.answer eio) records
+failures records = count_by (λ r. int_eq r.answer EIO) records
 
 -- how many closes of a descriptor there are
 abbrev pub closes_at : ℕ → List Record → ℕ

@@ -4,14 +4,14 @@ use Rattle.std.specs.Ordering.{int_eq}
 use Rattle.guest_words.specs.declared.record.Record.{Record}
 use Rattle.guest_words.specs.declared.record.Way.{Way}
 use Rattle.guest_words.specs.declared.record.Way.TheVariants.{Read, Write, Close}
-use Rattle.guest_words.specs.Calls.{eio}
+use Rattle.guest_words.specs.declared.linux.TheConstants.{EIO}
 use Rattle.edge_ports.specs.End.{End, raised_if, Came, Went}
 use Rattle.edge_ports.specs.Seen.{Seen, end_at}
 
 -- a call answered this number and has these bytes, or it failed and has none
 abbrev pub IsOutcome : Record → ℕ → List ℕ → Type 0
 IsOutcome r count bytes =
-    ((r.answer ≡ pos count) × (r.bytes ≡ bytes)) ⊎ ((r.answer ≡ eio) × (r.bytes ≡ []))
+    ((r.answer ≡ pos count) × (r.bytes ≡ bytes)) ⊎ ((r.answer ≡ EIO) × (r.bytes ≡ []))
 
 -- a read of at most `asked` bytes: it answers their number, or it failed
 pub record IsRead (fd asked : ℕ) (r : Record) : Type 0 where
@@ -57,7 +57,7 @@ given_bytes r = if is_write r.way then r.bytes else []
 
 -- a read that didn't fail answers the lesser of what was asked and what was left
 abbrev pub AnswersLesser : ℕ → Record → Type 0
-AnswersLesser left r = IsTrue (is_read r.way) → r.answer ≢ eio → r.answer ≡ pos (min r.asked left)
+AnswersLesser left r = IsTrue (is_read r.way) → r.answer ≢ EIO → r.answer ≡ pos (min r.asked left)
 
 -- what a record says of its device before and after the call
 pub record Serves (r : Record) (old new : End) : Type 0 where
@@ -65,7 +65,7 @@ pub record Serves (r : Record) (old new : End) : Type 0 where
   pub count : IfSome old.left (λ left. AnswersLesser (length left) r)
   pub given : Came old.given (given_bytes r) new.given
   -- one fault more where the call failed, and else none
-  pub faults : new.faults ≡ raised_if (int_eq r.answer eio) old.faults
+  pub faults : new.faults ≡ raised_if (int_eq r.answer EIO) old.faults
 
 -- the same of the device at a descriptor
 abbrev pub ServesAt : ℕ → Seen → Seen → Record → Type 0

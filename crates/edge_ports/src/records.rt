@@ -1,14 +1,11 @@
 ghost use Rattle.std.specs.Prelude.{◌≡◌, ◌≤◌, [], length, pos, take, IfOk, MatchResult};
-ghost use Rattle.guest_words.specs.Calls.{eio};
 ghost use Rattle.edge_ports.specs.Records.{IsClose, IsRead, IsWrite};
 
 use crate::failed::Failed;
 use crate::octets::octets;
+use guest_words::linux::EIO;
 use guest_words::{Bytes, Record, Way};
 use std::alloc::Global;
-
-/// The answer of a call that failed: EIO of Linux with a minus sign.
-const EIO: i64 = -5;
 
 /// The record of a `take` into these places.
 pub fn read_record(fd: u64, taken: Result<usize, Failed>, mut places: Vec<u8>) -> Record
@@ -17,7 +14,7 @@ pub fn read_record(fd: u64, taken: Result<usize, Failed>, mut places: Vec<u8>) -
     ensures fits { IsRead fd (length places.items) result }
     ensures bytes { MatchResult taken (λ n. result.bytes ≡ take n places.items)
         (λ _. result.bytes ≡ []) }
-    ensures answer { MatchResult taken (λ n. result.answer ≡ pos n) (λ _. result.answer ≡ eio) }
+    ensures answer { MatchResult taken (λ n. result.answer ≡ pos n) (λ _. result.answer ≡ EIO) }
 {
     let asked = places.len() as u64;
     let answer = match taken {
@@ -45,7 +42,7 @@ pub fn write_record(fd: u64, put: Result<(), Failed>, bytes: Bytes) -> Record
     ensures fits { IsWrite fd bytes result }
     ensures bytes { MatchResult put (λ _. result.bytes ≡ bytes) (λ _. result.bytes ≡ []) }
     ensures answer { MatchResult put (λ _. result.answer ≡ pos (length bytes))
-        (λ _. result.answer ≡ eio) }
+        (λ _. result.answer ≡ EIO) }
 {
     let mut items = bytes.into_vec();
     let asked = items.len();
