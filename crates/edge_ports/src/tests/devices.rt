@@ -2,7 +2,6 @@ use crate::{Devices, MemoryPort, MemorySink, Port, SureSource};
 use guest_words::Bytes;
 use std::alloc::{AllocError, Global};
 use std::test::Fail;
-use std::thread;
 
 type InMemory<P> = Devices<SureSource, MemorySink, P>;
 
@@ -94,19 +93,16 @@ fn closed_port(rt: HostRuntime) -> Result<(), Fail> {
     Ok(())
 }
 
+/// Its type may go to another thread.
+fn may_move<T: Send>(value: T) -> T {
+    value
+}
+
 #[test]
-fn devices_move_into_a_thread(rt: HostRuntime) -> Result<(), Fail> {
+fn devices_may_move_to_a_thread(rt: HostRuntime) -> Result<(), Fail> {
     let alloc = rt.alloc();
-    let mut ports: Vec<Box<dyn Port + Send>> = Vec::new(alloc);
-    ports.push(Box::new(alloc, port(alloc)?)?)?;
-    let mut moved = devices(alloc, ports)?;
-    let child = thread::spawn(&rt, move || {
-        if moved.can_read(3) {
-            drop(moved.read(3, 2));
-        }
-        moved
-    })?;
-    let mut back = child.join(&rt);
-    assert!(rt; reads(&mut back, 3, b"")?);
+    let boxed: Vec<Box<dyn Port + Send>> = Vec::new(alloc);
+    let mut moved = may_move(devices(alloc, boxed)?);
+    assert!(rt; reads(&mut moved, 0, b"ab")?);
     Ok(())
 }
