@@ -1,7 +1,7 @@
-pub mod Goes
+pub mod ComesTo
 pub mod Machine
-pub mod Served
-pub mod Turns
-pub mod Under
-pub mod Views
 pub mod Nearer
+pub mod OpenSteps
+pub mod Parts
+pub mod QuietSteps
+pub mod Served

@@ -2,19 +2,19 @@
 #![tactic(auto)]
 
 mod active;
+mod came;
 mod closing;
 mod fresh;
 mod limits;
 mod machine;
+mod open_step;
 mod opening;
 mod origin;
 mod parts;
 mod quiet;
+mod quiet_step;
 mod serve;
 mod stepped;
-mod turn;
-mod turns;
-mod under;
 
 pub use limits::Limits;
 pub use machine::{Active, Begin, Next, Quiet};

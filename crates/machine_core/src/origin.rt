@@ -17,6 +17,8 @@ impl Origin for Brand {
 
     ghost state = { record {
       memory = map.empty;
+      low = 0;
+      brk = 0;
       slots = [];
       waiting = [];
       next_tid = 0;

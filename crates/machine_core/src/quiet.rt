@@ -1,17 +1,19 @@
 ghost use Rattle.std.specs.Prelude.{◌≡◌, ◌≤◌, ◌<◌, [], true, false, length, None, IfErr, IfOk, OnErr};
+ghost use Rattle.guest_words.specs.declared.limits.TheConstants.{BUDGET, HARTS};
 ghost use Rattle.guest_words.specs.CallChanges.{any_other, is_live};
 ghost use Rattle.guest_words.specs.Image.{IsLoadList};
 ghost use Rattle.guest_words.specs.Start.{start_of};
 ghost use Rattle.edge_ports.specs.Kept.{Kept};
 ghost use Rattle.edge_ports.specs.Seen.{seen as told};
-ghost use Rattle.plain_machine.specs.After.{state_after};
-ghost use Rattle.plain_machine.specs.Ahead.{ahead};
-ghost use Rattle.plain_machine.specs.Built.{seen};
-ghost use Rattle.plain_machine.specs.Counts.{records_of_all};
-ghost use Rattle.plain_machine.specs.Legal.{is_ordinary, IsRun};
+ghost use Rattle.run_history.specs.After.{state_after};
+ghost use Rattle.run_history.specs.Ahead.{ahead};
+ghost use Rattle.plain_machine.specs.Seen.{seen};
+ghost use Rattle.run_history.specs.Counts.{records_of_all};
+ghost use Rattle.run_history.specs.Legal.{is_ordinary};
+ghost use Rattle.run_history.specs.Run.{IsRun};
 ghost use Rattle.machine_core.specs.Machine.{AllOpen};
-ghost use Rattle.machine_core.specs.Turns.{stepped_of, CallsOn, EndsBy, HasArrived, IsBusy, IsRequest, IsStill, RunsOn};
-ghost use Rattle.machine_core.specs.Goes.{entered, given_up, Begins};
+ghost use Rattle.machine_core.specs.QuietSteps.{stepped_of, CallsOn, EndsBy, HasArrived, IsBusy, IsRequest, IsStill, RunsOn};
+ghost use Rattle.machine_core.specs.OpenSteps.{entered, abandoned_of, Begins};
 ghost use Rattle.machine_core.specs.Nearer.{BeginsNearer};
 
 use crate::fresh::fresh;
@@ -21,10 +23,11 @@ use crate::opening::open;
 use crate::origin::Origin;
 use crate::parts::Core;
 use crate::stepped::Stepped;
-use crate::turns::step;
+use crate::quiet_step::quiet_step;
 use edge_ports::{Devices, Port, Sink, Source};
 use guest_words::{Ending, Image, MemoryWant, PointRef, Points};
-use plain_machine::{History, Plain, Seen};
+use plain_machine::{Plain, Seen};
+use run_history::History;
 use std::alloc::Global;
 use std::marker::PhantomData;
 
@@ -40,8 +43,8 @@ impl<K: Origin, S: Source, T: Sink, P: Port> Quiet<K, S, T, P> {
         devices: Devices<S, T, P>,
     ) -> Result<Quiet<K, S, T, P>, Devices<S, T, P>>
         requires image { IsLoadList image.now.loads }
-        requires harts { (1 ≤ limits.harts) × (limits.harts ≤ 64) }
-        requires budget { (1 ≤ limits.budget) × (limits.budget ≤ 20000000) }
+        requires harts { (1 ≤ limits.harts) × (limits.harts ≤ HARTS) }
+        requires budget { (1 ≤ limits.budget) × (limits.budget ≤ BUDGET) }
         requires open { AllOpen (told S.end T.end P.end devices) }
         requires state { K.state ≡ start_of image.now points.now limits.harts
             (length devices.ports.items) limits.budget }
@@ -123,7 +126,7 @@ impl<K: Origin, S: Source, T: Sink, P: Port> Quiet<K, S, T, P> {
         requires kept { self.old.abandoned ≡ false }
         requires hart { hart < length self.old.state.slots }
         requires quantum { (1 ≤ quantum) × (quantum ≤ 4096) }
-        ensures value { IfOk result (λ stepped. stepped ≡ stepped_of hart self.old.state) }
+        ensures value { IfOk result (λ stepped. stepped ≡ stepped_of self.old.state hart) }
         ensures ended { (ending : Ending) → result ≡ Ok (Stepped.Ended ending)
             → EndsBy ending self.old self.new }
         ensures still { IfOk result (λ stepped. IsStill stepped → self.new ≡ self.old) }
@@ -133,21 +136,21 @@ impl<K: Origin, S: Source, T: Sink, P: Port> Quiet<K, S, T, P> {
         ensures called { result ≡ Ok Stepped.Moved → IsRequest (seen self.old.state hart)
             → CallsOn hart self.old self.new }
         ensures nearer { result ≡ Ok Stepped.Moved
-            → ahead hart self.new.state < ahead hart self.old.state }
+            → ahead self.new.state hart < ahead self.old.state hart }
         ensures busy { any_other is_live hart K.state.slots ≡ false → IfOk result IsBusy }
         ensures err { OnErr result (self.new ≡ self.old) }
     {
-        step(self.core.as_mut(), hart, quantum)
+        quiet_step(self.core.as_mut(), hart, quantum)
     }
 
     /// Opens the call of the point at which a hart stands. Takes memory for a copy of the state.
     pub fn begin_lone(self, hart: u8) -> Begin<K, S, T, P>
         requires going { self.state.ending ≡ None }
         requires kept { self.abandoned ≡ false }
-        requires arrived { HasArrived (stepped_of hart self.state) }
-        ensures begins { (point : PointRef) → stepped_of hart self.state ≡ Stepped.Arrived point
-            → Begins (entered hart point self) self result }
-        ensures nearer { BeginsNearer hart self.state result }
+        requires arrived { HasArrived (stepped_of self.state hart) }
+        ensures begins { (point : PointRef) → stepped_of self.state hart ≡ Stepped.Arrived point
+            → Begins (entered self hart point) self result }
+        ensures nearer { BeginsNearer self.state hart result }
     {
         let Quiet { mut core, origin } = self;
         let Seen::Arrival(point) = core.state.see(hart) else {
@@ -162,17 +165,17 @@ impl<K: Origin, S: Source, T: Sink, P: Port> Quiet<K, S, T, P> {
     /// Lets the run stand as it is, for good.
     pub fn abandon(&mut self)
         requires going { self.old.state.ending ≡ None }
-        ensures value { self.new ≡ given_up self.old }
+        ensures value { self.new ≡ abandoned_of self.old }
     {
         self.core.as_mut().abandoned = true;
     }
 
     /// What has happened, and the devices.
-    pub fn finish(self) -> (History, Devices<S, T, P>)
+    pub fn into_parts(self) -> (History, Devices<S, T, P>)
         ensures history { result.0.entries ≡ self.history }
         ensures devices { told S.end T.end P.end result.1 ≡ self.devices }
         ensures run { IsRun K.state result.0.entries }
-        ensures reaches { self.state ≡ state_after result.0.entries K.state }
+        ensures reaches { self.state ≡ state_after K.state result.0.entries }
         ensures kept { Kept K.devices (told S.end T.end P.end result.1)
             (records_of_all result.0.entries) }
     {

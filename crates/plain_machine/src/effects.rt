@@ -2,13 +2,15 @@ ghost use Rattle.std.specs.Prelude.{◌≡◌, ◌+◌, ◌<◌, ◌≤◌, ◌^
 ghost use Rattle.guest_words.specs.Act.{written};
 ghost use Rattle.guest_words.specs.Space.{low_bytes};
 ghost use Rattle.guest_words.specs.State.{changed, enter, stored, with_closed, with_hart};
-ghost use Rattle.guest_words.specs.CallChanges.{answered, clear_of, cleared, exits, left};
-ghost use Rattle.plain_machine.specs.After.{placed, taken_back, with_record};
-ghost use Rattle.plain_machine.specs.Steps.{counted, HasRoom};
+ghost use Rattle.guest_words.specs.CallChanges.{answered, clear_of, cleared, departed, exits};
+ghost use Rattle.guest_words.specs.Points.{spent};
+ghost use Rattle.guest_words.specs.Widths.{bytes_in};
+ghost use Rattle.run_history.specs.After.{counted, placed, rescued_from, with_record};
+ghost use Rattle.plain_machine.specs.Steps.{HasRoom};
 
 use crate::plain::Plain;
 use crate::records::Records;
-use guest_words::{Ending, Hart, MemoryWant, PointRef, Record, Ret, Way, Write};
+use guest_words::{Ending, Fault, Hart, MemoryWant, PointRef, Points, Record, Way, Width, Write};
 
 impl Plain {
     /// Counts a step; the budget isn't spent.
@@ -21,21 +23,21 @@ impl Plain {
     }
 
     pub(crate) fn put(&mut self, h: u8, hart: Hart)
-        ensures value { self.new ≡ with_hart (λ before. hart) h self.old }
+        ensures value { self.new ≡ with_hart self.old h (λ before. hart) }
     {
         self.slots.put(h, hart);
     }
 
     /// Gives the answer of a call to a hart.
     pub(crate) fn answer(&mut self, h: u8, value: i64)
-        ensures value { self.new ≡ with_hart (answered value) h self.old }
+        ensures value { self.new ≡ with_hart self.old h (answered value) }
     {
         self.slots.answer(h, value);
     }
 
     /// Closes the frames of a hart whose calls are over.
     pub(crate) fn close(&mut self, h: u8)
-        ensures value { self.new ≡ with_closed h self.old }
+        ensures value { self.new ≡ with_closed self.old h }
     {
         self.slots.close(h);
     }
@@ -43,25 +45,25 @@ impl Plain {
     /// Makes the store of an instruction, if it has one.
     pub(crate) fn write(&mut self, write: Option<Write>)
         requires room { HasRoom write }
-        ensures value { self.new ≡ written write self.old }
+        ensures value { self.new ≡ written self.old write }
     {
         if let Some(write) = write {
             self.store(write.address, write.width, write.value);
         }
     }
 
-    fn store(&mut self, place: u64, width: u8, value: u64)
-        requires fits { place + width ≤ 2 ^ 64 }
-        ensures value { self.new ≡ stored place (low_bytes width value) self.old }
+    fn store(&mut self, place: u64, width: Width, value: u64)
+        requires fits { place + bytes_in width ≤ 2 ^ 64 }
+        ensures value { self.new ≡ stored self.old place (low_bytes (bytes_in width) value) }
     {
-        self.memory.store(place, width, value);
-        self.slots.touch(place, width as u64);
+        self.memory.store(place, width.bytes(), value);
+        self.slots.touch(place, width.bytes());
     }
 
     /// Puts the bytes of a read where it asked for them.
     pub(crate) fn place(&mut self, place: u64, call: &Record)
         requires fits { place + length call.now.bytes ≤ 2 ^ 64 }
-        ensures value { self.new ≡ placed call.now.way place call.now.bytes self.old }
+        ensures value { self.new ≡ placed self.old call.now.way place call.now.bytes }
     {
         match call.way {
             Way::Read => {
@@ -75,7 +77,7 @@ impl Plain {
 
     /// A hart exits; what it holds is cleared, and nobody waits for that yet.
     pub(crate) fn exit(&mut self, h: u8, code: u64)
-        ensures value { self.new ≡ exits code h self.old }
+        ensures value { self.new ≡ exits self.old h code }
     {
         let clear = self.clear_of(h);
         self.leave(h, code);
@@ -93,16 +95,16 @@ impl Plain {
 
     fn leave(&mut self, h: u8, code: u64)
         ensures value { self.new
-            ≡ record self.old { slots = changed (left code) h self.old.slots } }
+            ≡ record self.old { slots = changed (departed code) h self.old.slots } }
     {
         self.slots.leave(h, code);
     }
 
     fn clear(&mut self, place: u64)
-        ensures value { self.new ≡ cleared place self.old }
+        ensures value { self.new ≡ cleared self.old place }
     {
         if place != 0 && self.memory.can_write(place, 4) {
-            self.store(place, 4, 0);
+            self.store(place, Width::Four, 0);
         }
     }
 
@@ -110,7 +112,7 @@ impl Plain {
     /// memory for the frame.
     #[tactic(auto, unfolding(guest_words::specs::State::enter))]
     pub fn enter(&mut self, hart: u8, point: PointRef) -> Result<(), MemoryWant>
-        ensures ok { OnOk result (self.new ≡ enter hart point self.old) }
+        ensures ok { OnOk result (self.new ≡ enter self.old hart point) }
         ensures err { OnErr result (self.new ≡ self.old) }
     {
         self.slots.open(hart, point)?;
@@ -118,34 +120,40 @@ impl Plain {
         Ok(())
     }
 
-    /// Takes back a call, in the state that the hart in a slot came to it in: the hart returns from
-    /// it at once, and of all that the call did its records and steps alone stay. Takes no memory.
-    #[tactic(auto, unfolding(crate::specs::After::taken_back))]
-    pub fn take_back(&mut self, hart: u8, ret: Ret, call: Plain)
+    /// Takes back the call of a point for a fault, in the state that the hart in a slot came to it
+    /// in: the hart returns from it at once, with the point's code for the fault, and of all that
+    /// the call did its records, its steps and what is left of the points stay alone, of which this
+    /// point has one less. Takes no memory.
+    #[tactic(auto, unfolding(run_history::specs::After::rescued_from))]
+    pub fn take_back(&mut self, hart: u8, point: PointRef, fault: Fault, call: Plain)
         requires same { call.budget ≡ self.old.budget }
-        ensures value { self.new ≡ taken_back hart ret call.records call.steps self.old }
+        ensures value { self.new ≡ rescued_from self.old hart point fault call }
     {
-        let (records, steps) = call.into_trace();
+        let ret = self.points.code(point.entry, fault.name);
+        let (records, steps, mut points) = call.into_trace();
+        points.spend(point.entry);
         let _budget = self.budget;
         self.records = records;
         self.steps = steps;
+        self.points = points;
         self.slots.unreserve();
         self.slots.give_back(hart, ret);
         self.slots.close(hart);
     }
 
-    fn into_trace(self) -> (Records, u64)
+    fn into_trace(self) -> (Records, u64, Points)
         ensures records { result.0 ≡ self.records }
         ensures steps { result.1 ≡ self.steps }
         ensures within { result.1 ≤ self.budget }
+        ensures points { result.2 ≡ self.points }
     {
-        (self.records, self.steps)
+        (self.records, self.steps, self.points)
     }
 
     /// Puts a record last, which counts as a step.
     pub(crate) fn note(&mut self, call: Record) -> Result<(), MemoryWant>
         requires left { self.old.steps < self.old.budget }
-        ensures ok { OnOk result (self.new ≡ with_record call self.old) }
+        ensures ok { OnOk result (self.new ≡ with_record self.old call) }
     {
         self.records.push(call)?;
         self.count();

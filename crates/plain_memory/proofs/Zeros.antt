@@ -10,7 +10,8 @@ use Rattle.guest_words.specs.declared.image.Rights.{Rights}
 use Rattle.guest_words.specs.declared.image.Cell.{Cell}
 use Rattle.plain_memory.specs.declared.page.Page.{Page}
 use Rattle.plain_memory.specs.Pages.{cells_of, AreWhole}
-use Rattle.guest_words.specs.Blank.{zero_cell, zero_in}
+use Rattle.guest_words.specs.Space.{zero_cell}
+use Rattle.guest_words.specs.Blank.{zero_in}
 use Rattle.guest_words.proofs.StartMemory.{addresses_tell}
 use Rattle.plain_memory.proofs.Found.{cell_in, get-cells}
 

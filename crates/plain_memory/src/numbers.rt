@@ -1,24 +1,24 @@
-ghost use Rattle.std.specs.Prelude.{◌≡◌, ◌+◌, ◌*◌, ◌<◌, ◌≤◌, ◌^◌, ◌⊎◌, IfOk, length};
+ghost use Rattle.std.specs.Prelude.{◌≡◌, ◌+◌, ◌*◌, ◌<◌, ◌≤◌, ◌^◌, IfOk, length};
 ghost use Rattle.guest_words.specs.Space.{bytes_at, low_bytes, number_at, with_bytes};
+ghost use Rattle.guest_words.specs.Widths.{bytes_in};
 
 use crate::memory::Memory;
-use guest_words::{Bytes, MemoryWant};
+use guest_words::{Bytes, MemoryWant, Width};
 use std::alloc::Global;
 
 impl Memory {
     /// The number that so many bytes from an address on spell, the least significant first. A byte
     /// in no page reads as 0.
-    pub fn number_at(&self, place: u64, width: u8) -> u64
-        requires fits { place + width ≤ 2 ^ 64 }
-        requires width { (width ≡ 1) ⊎ (width ≡ 2) ⊎ (width ≡ 4) ⊎ (width ≡ 8) }
-        ensures value { result ≡ number_at self.now place width }
-        ensures within { result < 2 ^ (8 * width) }
+    pub fn number_at(&self, place: u64, width: Width) -> u64
+        requires fits { place + bytes_in width ≤ 2 ^ 64 }
+        ensures value { result ≡ number_at self.now place (bytes_in width) }
+        ensures within { result < 2 ^ (8 * bytes_in width) }
     {
         match width {
-            1 => u64::from(self.u8_at(place)),
-            2 => u64::from(self.u16_at(place)),
-            4 => u64::from(self.u32_at(place)),
-            _ => self.u64_at(place),
+            Width::One => u64::from(self.u8_at(place)),
+            Width::Two => u64::from(self.u16_at(place)),
+            Width::Four => u64::from(self.u32_at(place)),
+            Width::Eight => self.u64_at(place),
         }
     }
 
@@ -71,13 +71,13 @@ impl Memory {
 
     /// Stores the low bytes of a number from an address on. Rights aren't looked at, and a byte in
     /// no page is passed over.
-    pub fn store(&mut self, place: u64, width: u8, value: u64)
-        requires fits { place + width ≤ 2 ^ 64 }
-        ensures value { self.new ≡ with_bytes self.old place (low_bytes width value) }
+    pub fn store(&mut self, place: u64, size: u64, value: u64)
+        requires fits { place + size ≤ 2 ^ 64 }
+        ensures value { self.new ≡ with_bytes self.old place (low_bytes size value) }
     {
         let mut rest = value;
-        for i in 0..width {
-            self.set_byte(place + i as u64, (rest % 256) as u8);
+        for i in 0..size {
+            self.set_byte(place + i, (rest % 256) as u8);
             rest /= 256;
         }
     }

@@ -1,14 +1,14 @@
 use Rattle.std.proofs.Common.{◌≡◌, ◌≤◌, ◌<◌, refl, ap, sym, ◌∙◌, subst}
 use Rattle.guest_words.specs.State.{State}
 use Rattle.edge_ports.specs.Seen.{open_ports, spare}
-use Rattle.machine_core.specs.Goes.{entered}
+use Rattle.machine_core.specs.OpenSteps.{entered}
 use Rattle.machine_core.specs.Machine.{IsActive, Machine, Opened}
-use Rattle.machine_core.specs.Turns.{HasArrived, stepped_of}
-use Rattle.machine_core.specs.Views.{machine_of}
-use Rattle.plain_machine.specs.Built.{seen}
-use Rattle.machine_core.proofs.Entries.{named-Arrival}
-use Rattle.plain_machine.specs.Ahead.{ahead}
-use Rattle.plain_machine.specs.Quiet.{is_quiet}
+use Rattle.machine_core.specs.QuietSteps.{HasArrived, stepped_of}
+use Rattle.machine_core.specs.Parts.{machine_of}
+use Rattle.plain_machine.specs.Seen.{seen}
+use Rattle.machine_core.proofs.NamedActs.{named-Arrival}
+use Rattle.run_history.specs.Ahead.{ahead}
+use Rattle.run_history.specs.Quiet.{is_quiet}
 use Rattle.machine_core.proofs.Nearing.{entered_nearer}
 use Rattle.machine_core.proofs.OpenCalls.{arrived-is, begun, enters}
 use Rattle.machine_core.proofs.machine.Quiet.begin_lone.Goals as goal

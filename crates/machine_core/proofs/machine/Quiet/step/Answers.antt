@@ -1,12 +1,12 @@
 use Rattle.std.proofs.Common.{◌≡◌, ◌<◌, ap, sym, ◌∙◌, subst, IfOk, OnErr}
 use Rattle.edge_ports.specs.Seen.{spare}
 use Rattle.machine_core.specs.Machine.{IsReady, Machine}
-use Rattle.machine_core.specs.Turns.{IsBusy, Steps, stepped_of}
-use Rattle.machine_core.specs.Views.{machine_of}
+use Rattle.machine_core.specs.QuietSteps.{IsBusy, Steps, stepped_of}
+use Rattle.machine_core.specs.Parts.{machine_of}
 use Rattle.machine_core.proofs.Keeping.{is_ready, quiet-steps}
 use Rattle.guest_words.specs.State.{State}
-use Rattle.plain_machine.specs.After.{state_after}
-use Rattle.plain_machine.specs.Ahead.{ahead}
+use Rattle.run_history.specs.After.{state_after}
+use Rattle.run_history.specs.Ahead.{ahead}
 use Rattle.machine_core.proofs.Lone.{busy_ok, busy_of, lone_run, other_each}
 use Rattle.machine_core.proofs.Nearing.{moved_nearer, quiet_within}
 use Rattle.machine_core.proofs.Turning.{called-is, ran-is}
