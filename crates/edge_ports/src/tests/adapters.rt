@@ -1,7 +1,7 @@
 use crate::{Failed, FilePort, Port, Sink, Source, Standard, StdSink, StdSource};
+use std::fs;
 use std::io::BufWriter;
 use std::test::Fail;
-use std::{fs, io};
 
 #[test]
 fn a_sink_flushes_and_a_source_reads(rt: HostRuntime) -> Result<(), Fail> {
@@ -15,26 +15,6 @@ fn a_sink_flushes_and_a_source_reads(rt: HostRuntime) -> Result<(), Fail> {
     assert_eq!(rt; places, *b"abc\0");
     fs::remove_file(&rt, "edge_ports_stream")?;
     Ok(())
-}
-
-/// A writer that takes nothing.
-#[derive(Drop)]
-struct Full;
-
-impl io::Write for Full {
-    fn write(&mut self, _from: &[u8]) -> io::Result<usize> {
-        Ok(0)
-    }
-
-    fn flush(&mut self) -> io::Result<()> {
-        Ok(())
-    }
-}
-
-#[test]
-fn a_write_that_takes_nothing_fails(rt: HostRuntime) {
-    let mut sink = StdSink::new(Full);
-    assert_eq!(rt; sink.put(b"abc"), Err(Failed));
 }
 
 #[test]

@@ -1,31 +1,9 @@
 use crate::{
-    Failed, MemoryPort, MemoryShelf, MemorySink, MemorySource, Port, Shelf, ShelfFault, ShelfFile,
-    Sink, Source, SureSource,
+    Failed, MemoryPort, MemoryShelf, MemorySink, Port, Shelf, ShelfFault, ShelfFile, Sink,
 };
 use guest_words::{Bytes, Name};
 use std::alloc::{AllocError, Global};
 use std::test::Fail;
-
-#[test]
-fn a_source_goes_on_after_a_failing_take(rt: HostRuntime) -> Result<(), Fail> {
-    let alloc = rt.alloc();
-    let bytes = Bytes::of(b"abc".to_vec(alloc)?);
-    let mut source = MemorySource::new(bytes, vec![in alloc; 2]?);
-    let mut places = [0; 2];
-    assert_eq!(rt; source.take(&mut places), Ok(2));
-    assert_eq!(rt; source.take(&mut places), Err(Failed));
-    assert_eq!(rt; source.rest(), b"c".as_slice());
-    Ok(())
-}
-
-#[test]
-fn a_sure_source_gives_its_bytes(rt: HostRuntime) -> Result<(), Fail> {
-    let mut source = SureSource::new(Bytes::of(b"abc".to_vec(rt.alloc())?));
-    let mut places = [0; 4];
-    assert_eq!(rt; source.take(&mut places), Ok(3));
-    assert_eq!(rt; places, *b"abc\0");
-    Ok(())
-}
 
 #[test]
 fn a_sink_with_room_grows_past_it(rt: HostRuntime) -> Result<(), Fail> {
