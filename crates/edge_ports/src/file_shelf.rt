@@ -50,7 +50,8 @@ impl<R: Files + Drop> Shelf for FileShelf<R> {
     /// Writes a file beside, whose name is longer by `.saving`, and renames it. Where that name is
     /// taken, or a file can't be written or renamed, it is `Failed`, and the old one stays.
     fn save(&mut self, alloc: Global, name: &str, bytes: &Bytes) -> Result<(), ShelfFault>
-        ensures saves { Saves (file_shelf self.old) (file_shelf self.new) name.now bytes.now result }
+        ensures saves { Saves (file_shelf self.old) (file_shelf self.new) name.now bytes.now
+            result }
         ensures counts { (file_shelf self.new).save_faults name.now
             ≡ raised_if (is_failed result) ((file_shelf self.old).save_faults name.now) }
     {
