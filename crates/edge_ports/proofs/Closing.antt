@@ -1,34 +1,36 @@
 -- A close: what the records of a run say of the devices goes on, and one port fewer is open.
-use Rattle.std.proofs.Common.{◌≡◌, ◌≢◌, ◌⊎◌, inl, inr, ℕ, suc, zero, ◌-◌, ◌<◌, ◌≤◌, List, [], ◌∷◌, ◌++◌, length, set, get_or, append_assoc, refl, sym, ◌∙◌, ap, subst, arith, length-set}
+use Rattle.std.proofs.Common.{◌≡◌, ◌≢◌, ◌⊎◌, inl, inr, ℕ, suc, zero, ◌-◌, ◌<◌, ◌≤◌, ◌+◌, List, [], ◌∷◌, ◌++◌, length, drop, set, get_or, append_assoc, refl, sym, ◌∙◌, ap, subst, arith, length-set}
 use Rattle.std.proofs.lemmas.Bool.Decides.{eqb_tells, nat_tests}
 use Rattle.std.proofs.lemmas.List.{append-nil, map-append, get_or-set_other}
 use Rattle.std.proofs.lemmas.List.Elements.{filter-append}
 use Rattle.std.proofs.lemmas.List.Folds.{list_any-append}
-use Rattle.std.specs.Prelude.{None, Some, Bool, true, false, not, ◌==◌, ◌&&◌, ◌||◌, cond, nat_le, nat_lt, IfSome, map, filter}
+use Rattle.std.specs.Prelude.{None, Some, Bool, true, false, ℤ, ◌==◌, ◌&&◌, ◌||◌, cond, nat_le, nat_lt, IfSome, map, filter}
 use Rattle.std.specs.List.{list_any}
+use Rattle.std.specs.Ordering.{int_eq}
 use Rattle.std.specs.declared.option.Option.{Option}
 use Rattle.guest_words.specs.declared.record.Record.{Record}
 use Rattle.guest_words.specs.declared.record.Way.{Way}
 use Rattle.guest_words.specs.declared.record.Way.TheVariants.{Close}
-use Rattle.edge_ports.specs.End.{End, Came, Went, ended, untold}
+use Rattle.edge_ports.specs.End.{End, Came, Went, ended, raised, raised_by, raised_if, untold}
+use Rattle.guest_words.specs.declared.linux.TheConstants.{EIO}
 use Rattle.guest_words.specs.State.{is_close, is_closed}
 use Rattle.edge_ports.specs.Records.{AnswersLesser, IsClose, Serves, is_read}
 use Rattle.edge_ports.specs.Seen.{Seen, closed_at, end_at, is_shut, marked, port_shut}
-use Rattle.edge_ports.specs.Kept.{EndKept, Kept, ports_closed, records_at}
-use Rattle.edge_ports.proofs.Keeping.{at_descriptor, end-push}
-use Rattle.edge_ports.proofs.PortEnds.{end_at-high, end_at-with_port_other, low_or_high}
+use Rattle.edge_ports.specs.DevicesMatch.{DevicesMatch, EndMatches, closes_at, ports_closed, records_at}
+use Rattle.edge_ports.proofs.Keeping.{at_descriptor, closes_at-push, end-push, longer, raise_more}
+use Rattle.edge_ports.proofs.PortEnds.{end_at-high, end_at-with_port_other, end_at-with_port_same, low_or_high}
 use Rattle.edge_ports.proofs.Serving.{came_none, given-is, taken-is, went_none}
 
--- a write past the end changes nothing, and then the default is what was written
+-- a write past the end changes nothing
 get_or-set_true : (marks : List Bool) (i : ℕ) → get_or (set marks i true) i true ≡ true
 get_or-set_true [] i = refl
 get_or-set_true (m ∷ marks) zero = refl
 get_or-set_true (m ∷ marks) (suc i) = get_or-set_true marks i
 
-get_or-set_ended : (ends : List End) (i : ℕ) → get_or (set ends i (ended (get_or ends i (untold 0 false)))) i (untold 0 false) ≡ ended (get_or ends i (untold 0 false))
-get_or-set_ended [] i = refl
-get_or-set_ended (e ∷ ends) zero = refl
-get_or-set_ended (e ∷ ends) (suc i) = get_or-set_ended ends i
+set_or_not : (ends : List End) (i : ℕ) (end : End) → (get_or (set ends i end) i (untold 0 0) ≡ get_or ends i (untold 0 0)) ⊎ (get_or (set ends i end) i (untold 0 0) ≡ end)
+set_or_not [] i end = inl refl
+set_or_not (e ∷ ends) zero end = inr refl
+set_or_not (e ∷ ends) (suc i) end = set_or_not ends i end
 
 is_shut-low : (s : Seen) (k : ℕ) → k < 3 → is_shut s k ≡ get_or s.closed k true
 is_shut-low s k low = grind (arith, nat_tests)
@@ -54,16 +56,12 @@ and_true : (a : Bool) → (a && true) ≡ a
 and_true true = refl
 and_true false = refl
 
-and_false : (a : Bool) → (a && false) ≡ false
-and_false true = refl
-and_false false = refl
-
 -- what a close does, by descriptor
 record ClosesOnly (fd : ℕ) (old new : Seen) : Type 0 where
   closed : (k : ℕ) → is_shut new k ≡ (is_shut old k || (fd == k))
   others : (k : ℕ) → k ≢ fd → end_at new k ≡ end_at old k
   own : (end_at new fd ≡ end_at old fd) ⊎ (end_at new fd ≡ ended (end_at old fd))
-  connected : (k : ℕ) → 3 ≤ k → (end_at new k).connected ≡ ((end_at old k).connected && not (fd == k))
+  closes : (k : ℕ) → 3 ≤ k → k < 3 + length old.ports → (end_at new k).closes ≡ raised_if (fd == k) (end_at old k).closes
   count : length new.ports ≡ length old.ports
   shut : new.shut ≡ old.shut ++ cond (nat_le 3 fd) (fd ∷ []) []
 
@@ -72,7 +70,7 @@ marked_closes fd s low = record {
   closed = λ k. at k (low_or_high k);
   others = λ k apart. ends k;
   own = inl (ends fd);
-  connected = λ k high. ap (λ (e : End). e.connected) (ends k) ∙ linked k (differ fd k (omega arith));
+  closes = λ k high port. ap (λ (b : Bool). raised_if b (end_at s k).closes) (sym (differ fd k (omega arith)));
   count = refl;
   shut = sym (ap (λ (b : Bool). s.shut ++ cond b (fd ∷ []) []) below_three ∙ append-nil s.shut);
 }
@@ -82,9 +80,6 @@ marked_closes fd s low = record {
 
     ends : (k : ℕ) → end_at (marked fd s) k ≡ end_at s k
     ends k = refl
-
-    linked : (k : ℕ) → (fd == k) ≡ false → (end_at s k).connected ≡ ((end_at s k).connected && not (fd == k))
-    linked k is = sym (ap (λ (b : Bool). (end_at s k).connected && not b) is ∙ and_true (end_at s k).connected)
 
     at_low : (k : ℕ) → k < 3 → ((fd == k) ≡ true) × (fd ≡ k) ⊎ ((fd == k) ≡ false) × (fd ≢ k) → is_shut (marked fd s) k ≡ (is_shut s k || (fd == k))
     at_low k below (inl own) =
@@ -105,8 +100,8 @@ port_shut_closes : (fd : ℕ) (s : Seen) → 3 ≤ fd → ClosesOnly fd s (port_
 port_shut_closes fd s high = record {
   closed = λ k. at k (low_or_high k);
   others = ends;
-  own = inr own_end;
-  connected = λ k above. connected_at k (eqb_tells fd k);
+  own = own_or_not (set_or_not s.ports (fd - 3) (ended (end_at s fd)));
+  closes = λ k above port. closes_at_k k port (eqb_tells fd k);
   count = length-set s.ports (fd - 3) (ended (end_at s fd));
   shut = sym (ap (λ (b : Bool). s.shut ++ cond b (fd ∷ []) []) from_three);
 }
@@ -114,23 +109,22 @@ port_shut_closes fd s high = record {
     from_three : nat_le 3 fd ≡ true
     from_three = grind (arith, nat_tests)
 
-    own_end : end_at (port_shut fd s) fd ≡ ended (end_at s fd)
-    own_end =
-        end_at-high (port_shut fd s) fd high
-        ∙ ap (λ (e : End). get_or (set s.ports (fd - 3) (ended e)) (fd - 3) (untold 0 false)) (end_at-high s fd high)
-        ∙ get_or-set_ended s.ports (fd - 3)
-        ∙ ap ended (sym (end_at-high s fd high))
+    own_end : fd < 3 + length s.ports → end_at (port_shut fd s) fd ≡ ended (end_at s fd)
+    own_end port = end_at-with_port_same s fd (ended (end_at s fd)) high port
+
+    own_or_not : (get_or (set s.ports (fd - 3) (ended (end_at s fd))) (fd - 3) (untold 0 0) ≡ get_or s.ports (fd - 3) (untold 0 0)) ⊎ (get_or (set s.ports (fd - 3) (ended (end_at s fd))) (fd - 3) (untold 0 0) ≡ ended (end_at s fd))
+        → (end_at (port_shut fd s) fd ≡ end_at s fd) ⊎ (end_at (port_shut fd s) fd ≡ ended (end_at s fd))
+    own_or_not (inl same) = inl (end_at-high (port_shut fd s) fd high ∙ same ∙ sym (end_at-high s fd high))
+    own_or_not (inr over) = inr (end_at-high (port_shut fd s) fd high ∙ over)
 
     ends : (k : ℕ) → k ≢ fd → end_at (port_shut fd s) k ≡ end_at s k
     ends k apart = end_at-with_port_other s fd k (ended (end_at s fd)) high apart
 
-    connected_at : (k : ℕ) → ((fd == k) ≡ true) × (fd ≡ k) ⊎ ((fd == k) ≡ false) × (fd ≢ k) → (end_at (port_shut fd s) k).connected ≡ ((end_at s k).connected && not (fd == k))
-    connected_at k (inl same_one) =
-        ap (λ (n : ℕ). (end_at (port_shut fd s) n).connected) (sym same_one.1) ∙ ap (λ (e : End). e.connected) own_end
-        ∙ sym (ap (λ (b : Bool). (end_at s k).connected && not b) same_one.0 ∙ and_false (end_at s k).connected)
-    connected_at k (inr other) =
-        ap (λ (e : End). e.connected) (ends k (λ is. other.1 (sym is)))
-        ∙ sym (ap (λ (b : Bool). (end_at s k).connected && not b) other.0 ∙ and_true (end_at s k).connected)
+    closes_at_k : (k : ℕ) → k < 3 + length s.ports → ((fd == k) ≡ true) × (fd ≡ k) ⊎ ((fd == k) ≡ false) × (fd ≢ k) → (end_at (port_shut fd s) k).closes ≡ raised_if (fd == k) (end_at s k).closes
+    closes_at_k k port (inl same_one) =
+        ap (λ (n : ℕ). (end_at (port_shut fd s) n).closes) (sym same_one.1) ∙ ap (λ (e : End). e.closes) (own_end (omega (arith, same_one.1))) ∙ ap (λ (n : ℕ). raised (end_at s n).closes) same_one.1
+        ∙ ap (λ (b : Bool). raised_if b (end_at s k).closes) (sym same_one.0)
+    closes_at_k k port (inr other) = ap (λ (e : End). e.closes) (ends k (λ is. other.1 (sym is))) ∙ ap (λ (b : Bool). raised_if b (end_at s k).closes) (sym other.0)
 
     at : (k : ℕ) → (k < 3) ⊎ (3 ≤ k) → is_shut (port_shut fd s) k ≡ (is_shut s k || (fd == k))
     at k (inl below) =
@@ -160,8 +154,7 @@ close_serves fd r old new fits left given faults = record {
   left = subst (λ (l : List ℕ). Went old.left l new.left) (sym (taken-is r Close fits.way)) (subst (λ (o : Option (List ℕ)). Went old.left [] o) (sym left) (went_none old.left));
   count = counts old.left;
   given = subst (λ (l : List ℕ). Came old.given l new.given) (sym (given-is r Close fits.way)) (subst (λ (o : Option (List ℕ)). Came old.given [] o) (sym given) (came_none old.given));
-  later = omega (arith, faults);
-  cause = λ fails. absurd (cc (fits.answer, fails));
+  faults = faults ∙ ap (λ (z : ℤ). raised_if (int_eq z EIO) old.faults) (sym fits.answer);
 }
   where
     reads_none : is_read r.way ≡ false
@@ -174,11 +167,6 @@ close_serves fd r old new fits left given faults = record {
 or_assoc : (a b c : Bool) → ((a || b) || c) ≡ (a || (b || c))
 or_assoc true b c = refl
 or_assoc false b c = refl
-
-and_not_or : (a b c : Bool) → ((a && not b) && not c) ≡ (a && not (b || c))
-and_not_or true true c = refl
-and_not_or true false c = refl
-and_not_or false b c = refl
 
 module _ (rs : List Record) (r : Record) (fd : ℕ) (fits : IsClose fd r) where
   is_closed-close : (k : ℕ) → is_closed k (rs ++ r ∷ []) ≡ (is_closed k rs || (fd == k))
@@ -202,10 +190,16 @@ module _ (rs : List Record) (r : Record) (fd : ℕ) (fits : IsClose fd r) where
       one true = ap (λ (n : ℕ). n ∷ []) fits.port
       one false = refl
 
+  closes_at-close : (k : ℕ) → closes_at k (rs ++ r ∷ []) ≡ closes_at k rs + cond (fd == k) 1 0
+  closes_at-close k =
+      closes_at-push k rs r ∙ ap (λ (w : Way). closes_at k rs + cond (is_close w && (r.port == k)) 1 0) fits.way
+      ∙ ap (λ (n : ℕ). closes_at k rs + cond (n == k) 1 0) fits.port
+
   -- after `Devices::close`
-  pub kept-close : (start mid : Seen) → Kept start mid rs → Kept start (closed_at fd mid) (rs ++ r ∷ [])
-  kept-close start mid kept = record {
-    ends = λ k. at_descriptor k (end_at start k) (end_at now k) rs r (own k) (other k);
+  pub DevicesMatch-close : (start mid : Seen) (before : ℕ) → DevicesMatch start mid before rs → DevicesMatch start (closed_at fd mid) before (rs ++ r ∷ [])
+  DevicesMatch-close start mid before kept = record {
+    within = longer before rs r kept.within;
+    ends = λ k. at_descriptor k before (end_at start k) (end_at now k) rs r kept.within (own k) (other k);
     count = did.count ∙ kept.count;
     closed = λ k.
         did.closed k ∙ ap (λ (b : Bool). b || (fd == k)) (kept.closed k) ∙ or_assoc (is_shut start k) (is_closed k rs) (fd == k)
@@ -213,9 +207,9 @@ module _ (rs : List Record) (r : Record) (fd : ℕ) (fits : IsClose fd r) where
     shut =
         did.shut ∙ ap (λ (l : List ℕ). l ++ cond (nat_le 3 fd) (fd ∷ []) []) kept.shut ∙ append_assoc start.shut (ports_closed rs) (cond (nat_le 3 fd) (fd ∷ []) [])
         ∙ ap (λ (l : List ℕ). start.shut ++ l) (sym ports_closed-close);
-    connected = λ k high.
-        did.connected k high ∙ ap (λ (b : Bool). b && not (fd == k)) (kept.connected k high) ∙ and_not_or (end_at start k).connected (is_closed k rs) (fd == k)
-        ∙ ap (λ (b : Bool). (end_at start k).connected && not b) (sym (is_closed-close k));
+    closes = λ k high port.
+        did.closes k high (omega (arith, kept.count)) ∙ ap (λ (n : ℕ). raised_if (fd == k) n) (kept.closes k high port) ∙ raise_more (fd == k) (closes_at k rs) (end_at start k).closes
+        ∙ ap (λ (n : ℕ). raised_by n (end_at start k).closes) (sym (closes_at-close k));
   }
     where
       now : Seen
@@ -228,11 +222,11 @@ module _ (rs : List Record) (r : Record) (fd : ℕ) (fits : IsClose fd r) where
       served (inl same) = subst (λ (e : End). Serves r (end_at mid fd) e) (sym same) (close_serves fd r (end_at mid fd) (end_at mid fd) fits refl refl refl)
       served (inr over) = subst (λ (e : End). Serves r (end_at mid fd) e) (sym over) (close_serves fd r (end_at mid fd) (ended (end_at mid fd)) fits refl refl refl)
 
-      own : (k : ℕ) → r.port ≡ k → EndKept (end_at start k) (end_at (closed_at fd mid) k) (records_at k rs ++ r ∷ [])
+      own : (k : ℕ) → r.port ≡ k → EndMatches (end_at start k) (end_at (closed_at fd mid) k) (records_at k (drop before rs) ++ r ∷ [])
       own k is =
           let at : fd ≡ k = sym fits.port ∙ is in
-          end-push (end_at start k) (end_at mid k) (end_at (closed_at fd mid) k) (records_at k rs) r (kept.ends k)
+          end-push (end_at start k) (end_at mid k) (end_at (closed_at fd mid) k) (records_at k (drop before rs)) r (kept.ends k)
           (subst (λ (n : ℕ). Serves r (end_at mid n) (end_at (closed_at fd mid) n)) at (served did.own))
 
-      other : (k : ℕ) → r.port ≢ k → EndKept (end_at start k) (end_at (closed_at fd mid) k) (records_at k rs)
-      other k apart = subst (λ (e : End). EndKept (end_at start k) e (records_at k rs)) (sym (did.others k (λ is. apart (fits.port ∙ sym is)))) (kept.ends k)
+      other : (k : ℕ) → r.port ≢ k → EndMatches (end_at start k) (end_at (closed_at fd mid) k) (records_at k (drop before rs))
+      other k apart = subst (λ (e : End). EndMatches (end_at start k) e (records_at k (drop before rs))) (sym (did.others k (λ is. apart (fits.port ∙ sym is)))) (kept.ends k)

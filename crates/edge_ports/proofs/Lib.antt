@@ -5,3 +5,5 @@ pub mod Keeping
 pub mod OpenPorts
 pub mod PortEnds
 pub mod Serving
+pub mod Shelving
+pub mod Walks

@@ -1,5 +1,5 @@
 -- What the devices tell after a call on one port.
-use Rattle.std.proofs.Common.{◌≡◌, ◌≢◌, ◌⊎◌, inl, inr, ℕ, ◌+◌, ◌-◌, ◌<◌, ◌≤◌, List, [], ◌∷◌, ◌++◌, length, map, set, get_or, false, refl, sym, subst, ◌∙◌, ap, arith, length-set}
+use Rattle.std.proofs.Common.{◌≡◌, ◌≢◌, ◌⊎◌, inl, inr, ℕ, ◌+◌, ◌-◌, ◌<◌, ◌≤◌, List, [], ◌∷◌, ◌++◌, length, map, set, get_or, refl, sym, subst, ◌∙◌, ap, arith, length-set}
 use Rattle.std.proofs.lemmas.Bool.Decides.{nat_tests}
 use Rattle.std.proofs.lemmas.List.{length-map, map-set, get_or-set_same, get_or-set_other, get_or-map}
 use Rattle.std.specs.Prelude.{Vec}
@@ -13,7 +13,7 @@ use Rattle.edge_ports.specs.declared.devices.Devices.{Devices}
 abbrev pub with_port : Seen → ℕ → End → Seen
 with_port s i now = record { input = s.input; out = s.out; err = s.err; ports = set s.ports i now; closed = s.closed; shut = s.shut }
 
-pub end_at-high : (s : Seen) (k : ℕ) → 3 ≤ k → end_at s k ≡ get_or s.ports (k - 3) (untold 0 false)
+pub end_at-high : (s : Seen) (k : ℕ) → 3 ≤ k → end_at s k ≡ get_or s.ports (k - 3) (untold 0 0)
 end_at-high s k high = grind (arith, nat_tests)
 
 -- the first three don't depend on the ports
@@ -24,7 +24,7 @@ pub low_or_high : (k : ℕ) → (k < 3) ⊎ (3 ≤ k)
 low_or_high k = grind arith
 
 pub end_at-with_port_same : (s : Seen) (fd : ℕ) (now : End) → 3 ≤ fd → fd < 3 + length s.ports → end_at (with_port s (fd - 3) now) fd ≡ now
-end_at-with_port_same s fd now high within = end_at-high (with_port s (fd - 3) now) fd high ∙ get_or-set_same s.ports (fd - 3) now (untold 0 false) (omega arith)
+end_at-with_port_same s fd now high within = end_at-high (with_port s (fd - 3) now) fd high ∙ get_or-set_same s.ports (fd - 3) now (untold 0 0) (omega arith)
 
 pub end_at-with_port_other : (s : Seen) (fd k : ℕ) (now : End) → 3 ≤ fd → k ≢ fd → end_at (with_port s (fd - 3) now) k ≡ end_at s k
 end_at-with_port_other s fd k now high apart = at (low_or_high k)
@@ -33,7 +33,7 @@ end_at-with_port_other s fd k now high apart = at (low_or_high k)
     at (inl low) = end_at-low s (with_port s (fd - 3) now) k low refl refl refl
     at (inr above) =
         let off : k - 3 ≢ fd - 3 = omega arith in
-        end_at-high (with_port s (fd - 3) now) k above ∙ get_or-set_other s.ports (fd - 3) (k - 3) now (untold 0 false) off ∙ sym (end_at-high s k above)
+        end_at-high (with_port s (fd - 3) now) k above ∙ get_or-set_other s.ports (fd - 3) (k - 3) now (untold 0 0) off ∙ sym (end_at-high s k above)
 
 module _ {S T P : Type 0} (source : S → End) (sink : T → End) (port : P → End) (d : Devices S T P) (fd : ℕ) (high : 3 ≤ fd) (within : fd < 3 + length d.ports.items) (was : P) (at : was ≡ get_or d.ports.items (fd - 3) was) where
   -- a write through `&mut ports[fd - 3]`
@@ -51,7 +51,7 @@ module _ {S T P : Type 0} (source : S → End) (sink : T → End) (port : P → 
   pub before : end_at (seen source sink port d) fd ≡ port was
   before =
       let place : fd - 3 < length d.ports.items = omega arith in
-      end_at-high (seen source sink port d) fd high ∙ get_or-map port d.ports.items (fd - 3) was (untold 0 false) place ∙ ap port (sym at)
+      end_at-high (seen source sink port d) fd high ∙ get_or-map port d.ports.items (fd - 3) was (untold 0 0) place ∙ ap port (sym at)
 
   pub after : (now : P) → end_at (seen source sink port (moved now)) fd ≡ port now
   after now = ap (λ (s : Seen). end_at s fd) (seen-moved now) ∙ end_at-with_port_same (seen source sink port d) fd (port now) high in_range
@@ -61,10 +61,10 @@ module _ {S T P : Type 0} (source : S → End) (sink : T → End) (port : P → 
     pub acts : (now : P) → Q (port was) (port now) → Q (end_at (seen source sink port d) fd) (end_at (seen source sink port (moved now)) fd)
     acts now did = subst (λ (e : End). Q e (end_at (seen source sink port (moved now)) fd)) (sym before) (subst (λ (e : End). Q (port was) e) (sym (after now)) did)
 
-  pub stays : (now : P) → (port now).connected ≡ (port was).connected → SameBut fd (seen source sink port d) (seen source sink port (moved now))
-  stays now connected = record {
+  pub stays : (now : P) → (port now).closes ≡ (port was).closes → SameBut fd (seen source sink port d) (seen source sink port (moved now))
+  stays now closes = record {
     others = λ k apart. ap (λ (s : Seen). end_at s k) (seen-moved now) ∙ end_at-with_port_other (seen source sink port d) fd k (port now) high apart;
-    connected = acts (λ a b. b.connected ≡ a.connected) now connected;
+    closes = acts (λ a b. b.closes ≡ a.closes) now closes;
     count = ap (λ (s : Seen). length s.ports) (seen-moved now) ∙ length-set (map port d.ports.items) (fd - 3) (port now);
     closed = refl;
     shut = refl;

@@ -1,5 +1,5 @@
 -- Objects in memory: which of their calls fail, and what they hold.
-use Rattle.std.specs.Prelude.{ℕ, ◌==◌, List, Bool, true, Some, None, Contains, if◌then◌else◌}
+use Rattle.std.specs.Prelude.{ℕ, ◌==◌, List, Bool, Some, None, Contains, if◌then◌else◌}
 use Rattle.edge_ports.specs.End.{End, raised, raised_if}
 
 -- the numbers of the calls that are to fail, counted from 1; how many calls were made; and how
@@ -16,6 +16,10 @@ no_calls failing = record { failing = failing; made = 0; faults = 0 }
 -- the next call is among those that are to fail
 abbrev pub IsNextFailing : CallCount → Type 0
 IsNextFailing calls = Contains calls.failing (raised calls.made)
+
+-- one more call, of which the fault is counted elsewhere
+abbrev pub numbered : CallCount → CallCount
+numbered calls = record calls { made = raised calls.made }
 
 -- one more fault
 abbrev pub faulted : CallCount → CallCount
@@ -40,11 +44,11 @@ pub record SourceState : Type 0 where
 
 abbrev pub source_end : SourceState → End
 source_end s =
-    record { left = Some s.left; given = None; faults = s.calls.faults; connected = true }
+    record { left = Some s.left; given = None; faults = s.calls.faults; closes = 0 }
 
 -- a source that never fails: the bytes left
 abbrev pub sure_end : List ℕ → End
-sure_end left = record { left = Some left; given = None; faults = 0; connected = true }
+sure_end left = record { left = Some left; given = None; faults = 0; closes = 0 }
 
 -- a sink: the bytes given, how many it has room for in all, and its `put`s
 pub record SinkState : Type 0 where
@@ -54,15 +58,15 @@ pub record SinkState : Type 0 where
 
 abbrev pub sink_end : SinkState → End
 sink_end s =
-    record { left = None; given = Some s.given; faults = s.calls.faults; connected = true }
+    record { left = None; given = Some s.given; faults = s.calls.faults; closes = 0 }
 
--- a port: the bytes left, the bytes given and the room for them in all, whether it is connected,
+-- a port: the bytes left, the bytes given and the room for them in all, how often it was closed,
 -- and its `take`s and `put`s together
 pub record PortState : Type 0 where
   pub left : List ℕ
   pub given : List ℕ
   pub room : ℕ
-  pub connected : Bool
+  pub closes : ℕ
   pub calls : CallCount
 
 abbrev pub port_end : PortState → End
@@ -70,5 +74,5 @@ port_end p = record {
   left = Some p.left;
   given = Some p.given;
   faults = p.calls.faults;
-  connected = p.connected;
+  closes = p.closes;
 }

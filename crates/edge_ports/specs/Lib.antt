@@ -1,7 +1,10 @@
 pub mod Adapters
+pub mod Asked
+pub mod AskedBy
+pub mod DevicesMatch
 pub mod End
 pub mod InMemory
-pub mod Kept
 pub mod Records
 pub mod Seen
 pub mod Shelves
+pub mod Streams

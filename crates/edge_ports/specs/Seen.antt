@@ -35,7 +35,7 @@ end_at s fd =
     if fd == 0 then s.input
     else if fd == 1 then s.out
     else if fd == 2 then s.err
-    else slice_index_or s.ports (fd - 3) (untold 0 false)
+    else slice_index_or s.ports (fd - 3) (untold 0 0)
 
 -- whether a descriptor was closed
 abbrev pub is_shut : Seen → ℕ → Bool
@@ -65,7 +65,7 @@ open_ports s = open_among s.shut (length s.ports)
 -- nothing changed but the bytes and the count of faults of the device at a descriptor
 pub record SameBut (fd : ℕ) (old new : Seen) : Type 0 where
   pub others : (k : ℕ) → k ≢ fd → end_at new k ≡ end_at old k
-  pub connected : (end_at new fd).connected ≡ (end_at old fd).connected
+  pub closes : (end_at new fd).closes ≡ (end_at old fd).closes
   pub count : length new.ports ≡ length old.ports
   pub closed : new.closed ≡ old.closed
   pub shut : new.shut ≡ old.shut
@@ -82,7 +82,7 @@ pub record OthersStay {S T P : Type 0} (fd : ℕ) (old new : Devices S T P) : Ty
 abbrev pub marked : ℕ → Seen → Seen
 marked fd s = record s { closed = slice_set s.closed fd true }
 
--- a port's connection is ended, and its descriptor goes last into the list
+-- a port is closed once, and its descriptor goes last into the list
 abbrev pub port_shut : ℕ → Seen → Seen
 port_shut fd s =
     record s {

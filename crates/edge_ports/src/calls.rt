@@ -1,5 +1,5 @@
-ghost use Rattle.std.specs.Prelude.{◌≡◌, ◌↔◌, ◌≤◌, IsErr, is_err};
-ghost use Rattle.edge_ports.specs.InMemory.{counted, faulted, no_calls, IsNextFailing};
+ghost use Rattle.std.specs.Prelude.{◌≡◌, ◌↔◌, ◌≤◌, IsErr, IsTrue, is_err};
+ghost use Rattle.edge_ports.specs.InMemory.{counted, faulted, no_calls, numbered, IsNextFailing};
 
 use crate::failed::Failed;
 use std::marker::Model;
@@ -39,12 +39,19 @@ impl Calls {
         ensures counts { self.new ≡ counted (is_err result) self.old }
         ensures later { self.old.faults ≤ self.new.faults }
     {
-        self.made = self.made.saturating_add(1);
-        if self.failing.contains(&self.made) {
-            self.faults = self.faults.saturating_add(1);
-            return Err(Failed);
+        if self.number() {
+            return Err(self.fail());
         }
         Ok(())
+    }
+
+    /// Numbers the next call, and answers whether it is to fail, which the caller counts.
+    pub fn number(&mut self) -> bool
+        ensures value { IsTrue result ↔ IsNextFailing self.old }
+        ensures counts { self.new ≡ numbered self.old }
+    {
+        self.made = self.made.saturating_add(1);
+        self.failing.contains(&self.made)
     }
 
     /// Lets a call that has begun fail for another cause.

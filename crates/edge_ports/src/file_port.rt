@@ -1,10 +1,11 @@
-ghost use Rattle.std.specs.Prelude.{◌≡◌, ◌<◌, ◌≤◌, None, true, false, length, is_err, IfSome, IsErr};
-ghost use Rattle.edge_ports.specs.Adapters.{file_port_end, input_of, output_of};
-ghost use Rattle.edge_ports.specs.End.{ended, raised_if, untold, Puts, Takes};
+ghost use Rattle.std.specs.Prelude.{◌≡◌, ◌<◌, None, length};
+ghost use Rattle.std.specs.Io.{ReadsAtMost};
+ghost use Rattle.edge_ports.specs.Adapters.{file_port_end, input_of, output_of, ReadsFrom, WritesTo};
+ghost use Rattle.edge_ports.specs.End.{ended, untold, Puts, Takes};
 
 use crate::failed::Failed;
 use crate::port::Port;
-use crate::std_sink::write_whole;
+use crate::writing::write_whole;
 use std::fs;
 use std::io::{Read, Write};
 use std::rt::Files;
@@ -14,8 +15,8 @@ use std::rt::Files;
 pub struct FilePort<I, O> {
     input: Option<I>,
     output: Option<O>,
-    connected: bool,
     faults: u64,
+    closes: u64,
 }
 
 impl<I: Read + Drop, O: Write + Drop> Port for FilePort<I, O> {
@@ -33,43 +34,41 @@ impl<I: Read + Drop, O: Write + Drop> Port for FilePort<I, O> {
     {
         self.input = None;
         self.output = None;
-        self.connected = false;
+        self.closes = self.closes.saturating_add(1);
     }
 
     /// One read of the input file; without one it fails.
     fn take(&mut self, into: &mut [u8]) -> Result<usize, Failed>
         ensures takes { Takes (file_port_end self.old) (file_port_end self.new) into.new result }
-        ensures unopened { input_of self.old ≡ None → 0 < length into.old → IsErr result }
-        ensures counts { (file_port_end self.new).faults
-            ≡ raised_if (is_err result) (file_port_end self.old).faults }
+        ensures reads { 0 < length into.old → ReadsFrom I.remaining (input_of self.old)
+            (input_of self.new) result into.new }
+        ensures output { output_of self.new ≡ output_of self.old }
     {
         if into.is_empty() {
             return Ok(0);
         }
-        match read_some(&mut self.input, into) {
-            Some(count) => Ok(count),
-            None => {
-                self.faults = self.faults.saturating_add(1);
-                Err(Failed)
-            }
+        let taken = read_some(&mut self.input, into);
+        if taken.is_err() {
+            self.faults = self.faults.saturating_add(1);
         }
+        taken
     }
 
     /// Writes all of the bytes to the output file; without one it fails.
     fn put(&mut self, from: &[u8]) -> Result<(), Failed>
         ensures puts { Puts (file_port_end self.old) (file_port_end self.new) from.now result }
-        ensures unopened { output_of self.old ≡ None → 0 < length from.now → IsErr result }
-        ensures counts { (file_port_end self.new).faults
-            ≡ raised_if (is_err result) (file_port_end self.old).faults }
+        ensures writes { 0 < length from.now → WritesTo O.contents (output_of self.old)
+            (output_of self.new) from.now result }
+        ensures input { input_of self.new ≡ input_of self.old }
     {
         if from.is_empty() {
             return Ok(());
         }
-        if !write_all(&mut self.output, from) {
+        let put = write_all(&mut self.output, from);
+        if put.is_err() {
             self.faults = self.faults.saturating_add(1);
-            return Err(Failed);
         }
-        Ok(())
+        put
     }
 }
 
@@ -78,13 +77,13 @@ impl<I: Read, O: Write> FilePort<I, O> {
     pub fn new(input: Option<I>, output: Option<O>) -> FilePort<I, O>
         ensures input { input_of result ≡ input }
         ensures output { output_of result ≡ output }
-        ensures none { file_port_end result ≡ untold 0 true }
+        ensures none { file_port_end result ≡ untold 0 0 }
     {
         FilePort {
             input,
             output,
-            connected: true,
             faults: 0,
+            closes: 0,
         }
     }
 }
@@ -92,26 +91,29 @@ impl<I: Read, O: Write> FilePort<I, O> {
 impl<F: Read + Write> FilePort<F, F> {
     /// Opens the input file, and makes the output file empty. No call has failed yet.
     pub fn open<R: Files<File = F>>(files: &R, input: &str, output: &str) -> FilePort<F, F>
-        ensures none { file_port_end result ≡ untold 0 true }
+        ensures none { file_port_end result ≡ untold 0 0 }
     {
         FilePort::new(fs::open(files, input).ok(), fs::create(files, output).ok())
     }
 }
 
-/// How many bytes a read of the file gave; None where it failed or there is no file.
-fn read_some<I: Read>(input: &mut Option<I>, into: &mut [u8]) -> Option<usize>
-    ensures within { IfSome result (λ count. count ≤ length into.new) }
-    ensures unopened { input.old ≡ None → result ≡ None }
+/// One read of the file. Without one it fails.
+fn read_some<I: Read>(input: &mut Option<I>, into: &mut [u8]) -> Result<usize, Failed>
+    ensures within { ReadsAtMost result into.new }
+    ensures reads { ReadsFrom I.remaining input.old input.new result into.new }
 {
-    input.as_mut()?.read(into).ok()
+    match input {
+        Some(input) => input.read(into).map_err(|_| Failed),
+        None => Err(Failed),
+    }
 }
 
-/// Whether all of the bytes were written. Without a file they aren't.
-fn write_all<O: Write>(output: &mut Option<O>, from: &[u8]) -> bool
-    ensures unopened { output.old ≡ None → result ≡ false }
+/// Writes all of the bytes. Without a file it fails.
+fn write_all<O: Write>(output: &mut Option<O>, from: &[u8]) -> Result<(), Failed>
+    ensures writes { WritesTo O.contents output.old output.new from.now result }
 {
     match output {
-        Some(output) => write_whole(output, from).is_ok(),
-        None => false,
+        Some(output) => write_whole(output, from),
+        None => Err(Failed),
     }
 }

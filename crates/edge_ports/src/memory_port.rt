@@ -1,5 +1,5 @@
-ghost use Rattle.std.specs.Prelude.{◌≡◌, ◌↔◌, ◌+◌, ◌<◌, ◌≤◌, [], true, false, length, option_copied, IfOk, IsErr, is_err};
-ghost use Rattle.edge_ports.specs.End.{ended, Puts, Takes};
+ghost use Rattle.std.specs.Prelude.{◌≡◌, ◌↔◌, ◌+◌, ◌<◌, ◌≤◌, [], length, option_copied, IfOk, IsErr, is_err};
+ghost use Rattle.edge_ports.specs.End.{ended, raised, Puts, Takes};
 ghost use Rattle.edge_ports.specs.InMemory.{after_call, no_calls, port_end, IsNextFailing};
 
 use crate::calls::Calls;
@@ -16,7 +16,7 @@ use std::marker::Model;
 pub struct MemoryPort {
     unread: Unread,
     given: Vec<u8>,
-    connected: bool,
+    closes: u64,
     calls: Calls,
 }
 
@@ -30,7 +30,7 @@ impl Model for MemoryPort {
       left = p.unread;
       given = p.given.items;
       room = vec_capacity p.given;
-      connected = p.connected;
+      closes = p.closes;
       calls = p.calls;
     } };
 }
@@ -44,9 +44,9 @@ impl Port for MemoryPort {
 
     fn close(&mut self)
         ensures ended { port_end self.new ≡ ended (port_end self.old) }
-        ensures same { self.new ≡ (record self.old { connected = false }) }
+        ensures same { self.new ≡ (record self.old { closes = raised self.old.closes }) }
     {
-        self.connected = false;
+        self.closes = self.closes.saturating_add(1);
     }
 
     fn take(&mut self, into: &mut [u8]) -> Result<usize, Failed>
@@ -90,13 +90,13 @@ impl MemoryPort {
     pub fn new(input: Bytes, failing: Vec<u64>) -> MemoryPort
         ensures left { result.left ≡ input }
         ensures given { result.given ≡ [] }
-        ensures connected { result.connected ≡ true }
+        ensures closes { result.closes ≡ 0 }
         ensures calls { result.calls ≡ no_calls failing.items }
     {
         MemoryPort {
             unread: Unread::of(input),
             given: Vec::new(*failing.allocator()),
-            connected: true,
+            closes: 0,
             calls: Calls::new(failing),
         }
     }
@@ -112,7 +112,7 @@ impl MemoryPort {
           left = input;
           given = [];
           room = room;
-          connected = true;
+          closes = 0;
           calls = no_calls failing.items;
         })) }
     {
@@ -120,7 +120,7 @@ impl MemoryPort {
         Ok(MemoryPort {
             unread: Unread::of(input),
             given,
-            connected: true,
+            closes: 0,
             calls: Calls::new(failing),
         })
     }

@@ -5,15 +5,16 @@ use crate::failed::Failed;
 
 /// A connection, which gives and takes bytes.
 pub trait Port: Drop {
-    /// What it has left and was given, where it tells, its count of faults, and whether it is
-    /// connected.
+    /// What it has left and was given, where it tells, its count of faults, and how often it was
+    /// closed.
     ghost end: { Self → End };
 
     /// The bytes that it was given, also after its close; None exactly where it doesn't tell.
     fn given(&self) -> Option<&[u8]>
         ensures value { option_copied result ≡ (end self.now).given };
 
-    /// Ends the connection. What it tells of its bytes, and its count of faults, stay.
+    /// Ends the connection, and counts this. What it tells of its bytes, and its count of faults,
+    /// stay.
     fn close(&mut self)
         ensures ended { end self.new ≡ ended (end self.old) };
 

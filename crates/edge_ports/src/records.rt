@@ -1,13 +1,11 @@
 ghost use Rattle.std.specs.Prelude.{◌≡◌, ◌≤◌, [], length, pos, take, IfOk, MatchResult};
-ghost use Rattle.guest_words.specs.Calls.{eio};
 ghost use Rattle.edge_ports.specs.Records.{IsClose, IsRead, IsWrite};
 
 use crate::failed::Failed;
+use crate::octets::octets;
+use guest_words::linux::EIO;
 use guest_words::{Bytes, Record, Way};
 use std::alloc::Global;
-
-/// The answer of a call that failed: EIO of Linux with a minus sign.
-const EIO: i64 = -5;
 
 /// The record of a `take` into these places.
 pub fn read_record(fd: u64, taken: Result<usize, Failed>, mut places: Vec<u8>) -> Record
@@ -16,7 +14,7 @@ pub fn read_record(fd: u64, taken: Result<usize, Failed>, mut places: Vec<u8>) -
     ensures fits { IsRead fd (length places.items) result }
     ensures bytes { MatchResult taken (λ n. result.bytes ≡ take n places.items)
         (λ _. result.bytes ≡ []) }
-    ensures answer { MatchResult taken (λ n. result.answer ≡ pos n) (λ _. result.answer ≡ eio) }
+    ensures answer { MatchResult taken (λ n. result.answer ≡ pos n) (λ _. result.answer ≡ EIO) }
 {
     let asked = places.len() as u64;
     let answer = match taken {
@@ -34,7 +32,7 @@ pub fn read_record(fd: u64, taken: Result<usize, Failed>, mut places: Vec<u8>) -
         way: Way::Read,
         asked,
         answer,
-        bytes: Bytes::of(places),
+        bytes: octets(places),
     }
 }
 
@@ -44,28 +42,24 @@ pub fn write_record(fd: u64, put: Result<(), Failed>, bytes: Bytes) -> Record
     ensures fits { IsWrite fd bytes result }
     ensures bytes { MatchResult put (λ _. result.bytes ≡ bytes) (λ _. result.bytes ≡ []) }
     ensures answer { MatchResult put (λ _. result.answer ≡ pos (length bytes))
-        (λ _. result.answer ≡ eio) }
+        (λ _. result.answer ≡ EIO) }
 {
-    let asked = bytes.items().len();
-    let (answer, bytes) = match put {
-        Ok(()) => (asked as i64, bytes),
-        Err(Failed) => (EIO, emptied(bytes)),
+    let mut items = bytes.into_vec();
+    let asked = items.len();
+    let answer = match put {
+        Ok(()) => asked as i64,
+        Err(Failed) => {
+            items.clear();
+            EIO
+        }
     };
     Record {
         port: fd,
         way: Way::Write,
         asked: asked as u64,
         answer,
-        bytes,
+        bytes: octets(items),
     }
-}
-
-fn emptied(bytes: Bytes) -> Bytes
-    ensures none { result ≡ [] }
-{
-    let mut items = bytes.into_vec();
-    items.clear();
-    Bytes::of(items)
 }
 
 /// The record of a close.

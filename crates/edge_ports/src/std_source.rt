@@ -1,7 +1,7 @@
-ghost use Rattle.std.specs.Prelude.{◌≡◌, ◌<◌, true, length, is_err};
+ghost use Rattle.std.specs.Prelude.{◌≡◌, ◌<◌, length};
 ghost use Rattle.std.specs.Io.KnownBytes.{ReadConsumes};
 ghost use Rattle.edge_ports.specs.Adapters.{reader_of, std_source_end};
-ghost use Rattle.edge_ports.specs.End.{raised_if, untold, Takes};
+ghost use Rattle.edge_ports.specs.End.{untold, Takes};
 
 use crate::failed::Failed;
 use crate::source::Source;
@@ -22,8 +22,6 @@ impl<R: Read + Drop> Source for StdSource<R> {
         ensures takes { Takes (std_source_end self.old) (std_source_end self.new) into.new result }
         ensures reads { 0 < length into.old → ReadConsumes (R.remaining (reader_of self.old))
             (R.remaining (reader_of self.new)) result into.new }
-        ensures counts { (std_source_end self.new).faults
-            ≡ raised_if (is_err result) (std_source_end self.old).faults }
     {
         if into.is_empty() {
             return Ok(0);
@@ -42,7 +40,7 @@ impl<R: Read> StdSource<R> {
     /// No call has failed yet.
     pub fn new(reader: R) -> StdSource<R>
         ensures reader { reader_of result ≡ reader }
-        ensures none { std_source_end result ≡ untold 0 true }
+        ensures none { std_source_end result ≡ untold 0 0 }
     {
         StdSource { reader, faults: 0 }
     }

@@ -2,4 +2,5 @@
 // devices over them.
 mod adapters;
 mod devices;
+mod file_shelf;
 mod in_memory;

@@ -15,7 +15,7 @@ pub returns-in_default-clause-same : goal.returns-in_default-clause-same
 returns-in_default-clause-same g c =
     let high : 3 ≤ c.args.fd = omega arith in
     let within : c.args.fd < 3 + length c.args.self.now.ports.items = omega (arith, length-map c.args.self.now.ports.items g.P.Port.end) in
-    stays g.S.Source.end g.T.Sink.end g.P.Port.end c.args.self.now c.args.fd high within c.index_mut.result.now c.index_mut.ensures.value c.put-in_default.new.self c.put-in_default.ensures.puts.connected
+    stays g.S.Source.end g.T.Sink.end g.P.Port.end c.args.self.now c.args.fd high within c.index_mut.result.now c.index_mut.ensures.value c.put-in_default.new.self c.put-in_default.ensures.puts.closes
 
 pub returns-in_default-clause-others : goal.returns-in_default-clause-others
 returns-in_default-clause-others g c =

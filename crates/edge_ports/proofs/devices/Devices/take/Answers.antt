@@ -15,7 +15,7 @@ pub returns-else-fd-eq0-clause-same : goal.returns-else-fd-eq0-clause-same
 returns-else-fd-eq0-clause-same g c =
     let high : 3 ≤ c.args.fd = omega arith in
     let within : c.args.fd < 3 + length c.args.self.now.ports.items = omega (arith, length-map c.args.self.now.ports.items g.P.Port.end) in
-    stays g.S.Source.end g.T.Sink.end g.P.Port.end c.args.self.now c.args.fd high within c.index_mut.result.now c.index_mut.ensures.value c.take-else-fd-eq0.new.self c.take-else-fd-eq0.ensures.takes.connected
+    stays g.S.Source.end g.T.Sink.end g.P.Port.end c.args.self.now c.args.fd high within c.index_mut.result.now c.index_mut.ensures.value c.take-else-fd-eq0.new.self c.take-else-fd-eq0.ensures.takes.closes
 
 pub returns-else-fd-eq0-clause-others : goal.returns-else-fd-eq0-clause-others
 returns-else-fd-eq0-clause-others g c =

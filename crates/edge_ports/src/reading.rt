@@ -1,0 +1,43 @@
+ghost use Rattle.std.specs.Prelude.{◌≡◌, ◌<◌, ◌≤◌, ℕ, All, length, Err, IfOk, IfSome, OnOk};
+ghost use Rattle.std.specs.Io.KnownBytes.{Consumes, IsAtEnd};
+
+use crate::octets::octets;
+use crate::shelf::ShelfFault;
+use guest_words::Bytes;
+use std::alloc::Global;
+use std::io::Read;
+
+/// Reads all that the reader has left, at most `limit` bytes. An error of the reader is `Failed`;
+/// the length of `TooLong` is that of what was read.
+pub(crate) fn read_up_to<I: Read>(
+    alloc: Global,
+    reader: &mut I,
+    limit: u64,
+) -> Result<Bytes, ShelfFault>
+    ensures all { IfOk result (Consumes (I.remaining reader.old) (I.remaining reader.new)) }
+    ensures end { OnOk result (IsAtEnd (I.remaining reader.new)) }
+    ensures within { IfOk result (λ bytes. length bytes ≤ limit) }
+    ensures below { IfOk result (λ bytes. All (λ b. b < 256) bytes) }
+    ensures over { (size : ℕ) → result ≡ Err (ShelfFault.TooLong size) → limit < size }
+    ensures long { (size : ℕ) → result ≡ Err (ShelfFault.TooLong size)
+        → IfSome (I.remaining reader.old) (λ left. size ≤ length left) }
+{
+    let mut bytes = Vec::new(alloc);
+    let mut chunk = [0u8; 4096];
+    for _ in 0..u64::MAX {
+        let Ok(count) = reader.read(&mut chunk) else {
+            return Err(ShelfFault::Failed);
+        };
+        if count == 0 {
+            return Ok(octets(bytes));
+        }
+        let length = bytes.len() as u64 + count as u64;
+        if length > limit {
+            return Err(ShelfFault::TooLong { length });
+        }
+        if bytes.extend_from_slice(&chunk[..count]).is_err() {
+            return Err(ShelfFault::Memory);
+        }
+    }
+    Err(ShelfFault::Failed)
+}
