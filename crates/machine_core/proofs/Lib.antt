@@ -1,5 +1,5 @@
 pub mod Calls
-pub mod Entries
+pub mod NamedActs
 pub mod Going
 pub mod Keeping
 pub mod OpenCalls

@@ -1,31 +1,18 @@
--- An act by its name.
-use Rattle.std.proofs.Common.{◌≡◌, ℕ, ◌<◌, zero, suc, Bool, true, false, not, ◌||◌, nat_lt, List, [], ◌∷◌, Some, None, refl, ap, ◌∙◌, slice_get, arith, eq-eqb, is_none}
-use Rattle.std.proofs.lemmas.Bool.Decides.{nat_tests}
-use Rattle.std.specs.List.{list_any}
-use Rattle.guest_words.specs.declared.ending.Ending.{Ending}
-use Rattle.guest_words.specs.declared.ending.Ending.TheVariants as ending
+-- An act that is seen, by its name.
+use Rattle.std.proofs.Common.{◌≡◌, ℕ, Bool, true, false, not, ◌&&◌, if◌then◌else◌, None, is_none, refl, ap, sym, ◌∙◌}
 use Rattle.guest_words.specs.declared.fault.FaultName.{FaultName}
-use Rattle.guest_words.specs.declared.fault.FaultName.TheVariants.{FetchRights, FetchMisaligned, Illegal, LoadRights, StoreRights, AtomicMisaligned, Breakpoint, BlockedInPoint}
-use Rattle.guest_words.specs.declared.hart.Slot.{Slot}
 use Rattle.guest_words.specs.declared.point.PointRef.{PointRef}
-use Rattle.guest_words.specs.declared.record.Record.{Record}
 use Rattle.guest_words.specs.declared.record.Way.{Way}
-use Rattle.guest_words.specs.Act.{StateAct, Ordinary, Fault, Request, Arrival, End, Absent, fits}
-use Rattle.guest_words.specs.Endings.{is_at, is_budget_spent, is_end, is_fault, is_same_name, is_stuck}
-use Rattle.guest_words.specs.Harts.{is_ready}
-use Rattle.guest_words.specs.State.{State, frames_at}
-use Rattle.run_history.specs.declared.entry.Entry.{Ran, Called, Ended}
-use Rattle.plain_machine.specs.declared.see.Seen.TheVariants as seen_is
-use Rattle.run_history.specs.After.{after, called, next, ran}
-use Rattle.plain_machine.specs.Seen.{seen}
-use Rattle.run_history.specs.Legal.{can_run, is_ready_at, is_ready_slot, legal, may_act}
-use Rattle.run_history.specs.Quiet.{is_quiet}
-use Rattle.plain_machine.specs.Seen.{named}
-use Rattle.run_history.specs.Legal.{can_go}
+use Rattle.guest_words.specs.Act.{StateAct, Ordinary, Fault, Request, Arrival, End, Absent, act_of}
+use Rattle.guest_words.specs.Endings.{is_budget_spent}
+use Rattle.guest_words.specs.State.{State}
+use Rattle.run_history.specs.Built.{is_built}
+use Rattle.run_history.specs.Faults.{fault_by, fault_of, pc_at}
+use Rattle.run_history.specs.Legal.{can_go, is_alone, is_ordinary, is_ready_at, may_act}
 use Rattle.run_history.proofs.Ands.{and_both, and_left, and_right}
-use Rattle.run_history.proofs.Quietness.{quiet_alone, quiet_frames}
-
--- an act by its name
+use Rattle.plain_machine.specs.declared.see.Seen.TheVariants as seen_is
+use Rattle.plain_machine.specs.Seen.{named, seen}
+use Rattle.plain_machine.proofs.SeenActs.{seen-act, tests-seen}
 
 pub named-Fault : (a : StateAct) (name : FaultName) → named a ≡ seen_is.Fault name → a ≡ Fault name
 named-Fault (Ordinary t) name is = cc
@@ -58,3 +45,34 @@ named-Arrival (Request w port asked place) p is = cc
 named-Arrival (Arrival q) p is = cc
 named-Arrival (End code) p is = cc
 named-Arrival Absent p is = cc
+
+pub named-ordinary : (a : StateAct) → named a ≡ seen_is.Ordinary → is_ordinary a ≡ true
+named-ordinary (Ordinary t) is = refl
+named-ordinary (Fault name) is = cc
+named-ordinary (Request w port asked place) is = cc
+named-ordinary (Arrival q) is = cc
+named-ordinary (End code) is = cc
+named-ordinary Absent is = cc
+
+-- an act with a name is built, and a ready hart may make it
+
+pub named-built : (s : State) (h : ℕ) (a : StateAct) → (Absent ≡ a → ⊥) → seen s h ≡ a → is_built s h ≡ true
+named-built s h a other is = (seen-act s h a other is).0
+
+pub may_when : (s : State) (h : ℕ) → s.ending ≡ None → is_budget_spent s ≡ false → is_ready_at s h ≡ true → is_alone s h ≡ true → is_built s h ≡ true → may_act s h ≡ true
+may_when s h going fresh ready alone built =
+    and_both _ _ (and_both _ _ (and_both _ _ (and_both _ _ (ap is_none going) (ap not fresh)) ready) alone) built
+
+-- a ready hart that is seen to make an ordinary act can go on
+pub ordinary-goes_on : (s : State) (h : ℕ) → is_budget_spent s ≡ false → is_ready_at s h ≡ true → is_ordinary (seen s h) ≡ true → can_go s h ≡ true
+ordinary-goes_on s h fresh ready is =
+    let both : (is_built s h && is_ordinary (act_of s h)) ≡ true = sym (tests-seen is_ordinary s h refl) ∙ is in
+    and_both _ _ (and_both _ _ (and_both _ _ (ap not fresh) ready) (and_left _ _ both)) (and_right _ _ both)
+
+-- the fault of a hart is that which is seen of it
+pub fault-seen : (s : State) (h : ℕ) → fault_by (seen s h) (pc_at s h) ≡ fault_of s h
+fault-seen s h = by (is_built s h)
+  where
+    by : (b : Bool) → fault_by (if b then act_of s h else Absent) (pc_at s h) ≡ (if b then fault_by (act_of s h) (pc_at s h) else None)
+    by true = refl
+    by false = refl

@@ -11,7 +11,7 @@ pub trait Origin {
 }
 
 impl Origin for Brand {
-    ghost use Rattle.std.specs.Prelude.{[], None, true};
+    ghost use Rattle.std.specs.Prelude.{[], None};
     ghost use Rattle.std.specs.FinMap as map;
     ghost use Rattle.edge_ports.specs.End.{untold};
 
@@ -31,9 +31,9 @@ impl Origin for Brand {
     } };
 
     ghost devices = { record {
-      input = untold 0 true;
-      out = untold 0 true;
-      err = untold 0 true;
+      input = untold 0 0;
+      out = untold 0 0;
+      err = untold 0 0;
       ports = [];
       closed = [];
       shut = [];

@@ -3,7 +3,7 @@ ghost use Rattle.guest_words.specs.declared.limits.TheConstants.{BUDGET, HARTS};
 ghost use Rattle.guest_words.specs.CallChanges.{any_other, is_live};
 ghost use Rattle.guest_words.specs.Image.{IsLoadList};
 ghost use Rattle.guest_words.specs.Start.{start_of};
-ghost use Rattle.edge_ports.specs.Kept.{Kept};
+ghost use Rattle.edge_ports.specs.DevicesMatch.{DevicesMatch};
 ghost use Rattle.edge_ports.specs.Seen.{seen as told};
 ghost use Rattle.run_history.specs.After.{state_after};
 ghost use Rattle.run_history.specs.Ahead.{ahead};
@@ -176,7 +176,7 @@ impl<K: Origin, S: Source, T: Sink, P: Port> Quiet<K, S, T, P> {
         ensures devices { told S.end T.end P.end result.1 ≡ self.devices }
         ensures run { IsRun K.state result.0.entries }
         ensures reaches { self.state ≡ state_after K.state result.0.entries }
-        ensures kept { Kept K.devices (told S.end T.end P.end result.1)
+        ensures matches { DevicesMatch K.devices (told S.end T.end P.end result.1) 0
             (records_of_all result.0.entries) }
     {
         let Quiet { core, origin: _ } = self;

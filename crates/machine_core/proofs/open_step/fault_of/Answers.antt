@@ -1,5 +1,5 @@
-use Rattle.std.proofs.Common.{sym, ◌∙◌}
-use Rattle.machine_core.proofs.Readiness.{no_fault}
+use Rattle.std.proofs.Common.{ap, sym, ◌∙◌}
+use Rattle.run_history.proofs.Faulting.{no_fault}
 use Rattle.machine_core.proofs.open_step.fault_of.Goals as goal
 
 pub returns-in_err-slot : goal.returns-in_err-slot

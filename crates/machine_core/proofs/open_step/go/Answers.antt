@@ -7,26 +7,27 @@ use Rattle.run_history.proofs.RunSteps.{ran-none}
 use Rattle.machine_core.specs.declared.parts.Call.{Call}
 use Rattle.machine_core.specs.ComesTo.{CanAct, ComesTo}
 use Rattle.machine_core.specs.Parts.{opened_of}
-use Rattle.machine_core.proofs.NamedActs.{after-Ran, goes-first}
-use Rattle.machine_core.proofs.OpenCalls.{length-with_act, one_ran}
+use Rattle.run_history.proofs.Entries.{after-Ran, goes-first}
+use Rattle.run_history.proofs.LastEntries.{length-with_act}
+use Rattle.run_history.proofs.OneMore.{one_ran}
 use Rattle.machine_core.proofs.open_step.go.Goals as goal
 
 pub stand-requires-clause-under : goal.stand-requires-clause-under
 stand-requires-clause-under g c =
     let s = c.args.core.now.state in
-    let state = c.run.ensures.after ∙ ap (λ n. ran n c.args.call.now.hart s) c.in-0.is ∙ ran-none c.args.call.now.hart s in
+    let state = c.run.ensures.after ∙ ap (ran s c.args.call.now.hart) c.in-0.is ∙ ran-none s c.args.call.now.hart in
     subst (λ (t : State). CanAct (opened_of g.S.Source.end g.T.Sink.end g.P.Port.end (record c.args.core.now { state = t }) c.args.call.now) (spare c.args.core.now.devices)) (sym state) c.requires.under
 
 pub stand-requires-clause-fresh : goal.stand-requires-clause-fresh
 stand-requires-clause-fresh g c =
     let s = c.args.core.now.state in
-    let state = c.run.ensures.after ∙ ap (λ n. ran n c.args.call.now.hart s) c.in-0.is ∙ ran-none c.args.call.now.hart s in
+    let state = c.run.ensures.after ∙ ap (ran s c.args.call.now.hart) c.in-0.is ∙ ran-none s c.args.call.now.hart in
     ap is_budget_spent state ∙ c.requires.fresh
 
 pub returns-in-0-clause-turns : goal.returns-in-0-clause-turns
 returns-in-0-clause-turns g c =
     let s = c.args.core.now.state in
-    let state = c.run.ensures.after ∙ ap (λ n. ran n c.args.call.now.hart s) c.in-0.is ∙ ran-none c.args.call.now.hart s in
+    let state = c.run.ensures.after ∙ ap (ran s c.args.call.now.hart) c.in-0.is ∙ ran-none s c.args.call.now.hart in
     subst (λ (t : State). ComesTo (opened_of g.S.Source.end g.T.Sink.end g.P.Port.end (record c.args.core.now { state = t }) c.args.call.now) c.stand.result
     (opened_of g.S.Source.end g.T.Sink.end g.P.Port.end c.stand.new.core c.stand.new.call)) state c.stand.ensures.turns
 
@@ -36,7 +37,7 @@ returns-in_default-clause-turns g c =
     let h = c.args.call.now.hart in
     let within = c.run.ensures.within in
     let one : c.run.result ≡ 1 = omega (arith, within, c.in_default) in
-    let state = c.run.ensures.after ∙ ap (λ n. ran n h s) one ∙ sym (after-Ran h 1 s) ∙ one_ran h s in
+    let state = c.run.ensures.after ∙ ap (ran s h) one ∙ sym (after-Ran s h 1) ∙ one_ran s h in
     let call = c.note_act.ensures.same in
     inl (record {
       goes = goes-first s h c.run.result (omega (arith, one)) c.run.ensures.legal;

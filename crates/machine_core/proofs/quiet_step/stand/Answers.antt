@@ -4,7 +4,7 @@ use Rattle.run_history.specs.Legal.{is_ready_slot}
 use Rattle.machine_core.specs.declared.stepped.Stepped.{Stepped}
 use Rattle.machine_core.specs.QuietSteps.{Stands}
 use Rattle.machine_core.specs.Parts.{machine_of}
-use Rattle.machine_core.proofs.NamedActs.{legal-Budget, legal-Stuck, may}
+use Rattle.run_history.proofs.Entries.{legal-Budget, legal-Stuck}
 use Rattle.machine_core.proofs.quiet_step.stand.Goals as goal
 
 pub returns-then-is_budget_spent-clause-steps : goal.returns-then-is_budget_spent-clause-steps
@@ -25,7 +25,5 @@ returns-then-is_stuck-clause-steps g c =
       same = c.end-then-is_stuck.ensures.ended;
     })
 
-pub act-requires-clause-may : goal.act-requires-clause-may
-act-requires-clause-may g c =
-    let ready = ap is_ready_slot (sym c.in-Some.ensures.value) ∙ ap is_ready c.in-Ready.is in
-    may c.args.core.now.state c.args.hart c.requires.ready.going (sym c.if-is_budget_spent.ensures.value) ready c.requires.ready.calm
+pub act-requires-clause-able : goal.act-requires-clause-able
+act-requires-clause-able g c = ap is_ready_slot (sym c.in-Some.ensures.value) ∙ ap is_ready c.in-Ready.is
