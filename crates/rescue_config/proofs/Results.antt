@@ -6,6 +6,8 @@ use Rattle.guest_words.specs.declared.image.Span.{Span}
 use Rattle.guest_words.specs.declared.point.Point.{Point}
 use Rattle.elf_symbols.specs.declared.symbol.Symbol.{Symbol}
 use Rattle.toml.specs.Data.{Items, Members}
+use Rattle.rescue_config.specs.declared.version.Version.{Version}
+use Rattle.rescue_config.specs.Version.{version_of}
 use Rattle.rescue_config.specs.declared.point_fault.PointFault.{PointFault}
 use Rattle.rescue_config.specs.declared.points_fault.PointsFault.{PointsFault}
 use Rattle.rescue_config.specs.declared.points_fault.PointsFault.TheVariants.{Points}
@@ -36,30 +38,33 @@ pub points_of-file : (bytes : List ℕ) (symbols : List Symbol) (text : List Spa
 unfolding points_of
 points_of-file bytes symbols text file x document broken =
     ap (points_of_document symbols text) document
-    ∙ ap (λ first. points_or (points_in symbols (point_items file)) (option_or first (first_at_point (points_rules symbols text [] (point_items file))))) broken
+    ∙ ap (λ first. points_or (points_in (version_of file) symbols (point_items file)) (option_or first (first_at_point (points_rules (version_of file) symbols text [] (point_items file))))) broken
 
 -- the rules on the whole file are kept: those on the points decide
-pub points_of-points : (bytes : List ℕ) (symbols : List Symbol) (text : List Span) (file : Members) (items : Items) (first : Option (PointFault × Option ℕ))
+pub points_of-points : (bytes : List ℕ) (symbols : List Symbol) (text : List Span) (file : Members) (version : Version) (items : Items) (first : Option (PointFault × Option ℕ))
     → document_of bytes ≡ Some file
     → first_at_file (file_rules file) ≡ None
+    → version ≡ version_of file
     → items ≡ point_items file
-    → first_at_point (points_rules symbols text [] items) ≡ first
-    → points_of bytes symbols text ≡ points_or (points_in symbols items) first
+    → first_at_point (points_rules version symbols text [] items) ≡ first
+    → points_of bytes symbols text ≡ points_or (points_in version symbols items) first
 unfolding points_of
-points_of-points bytes symbols text file items first document kept same is =
+points_of-points bytes symbols text file version items first document kept said same is =
     ap (points_of_document symbols text) document
-    ∙ ap (λ none. points_or (points_in symbols (point_items file)) (option_or none (first_at_point (points_rules symbols text [] (point_items file))))) kept
-    ∙ ap (λ its. points_or (points_in symbols its) (first_at_point (points_rules symbols text [] its))) (sym same)
-    ∙ ap (points_or (points_in symbols items)) is
+    ∙ ap (λ none. points_or (points_in (version_of file) symbols (point_items file)) (option_or none (first_at_point (points_rules (version_of file) symbols text [] (point_items file))))) kept
+    ∙ ap (λ its. points_or (points_in (version_of file) symbols its) (first_at_point (points_rules (version_of file) symbols text [] its))) (sym same)
+    ∙ ap (λ v. points_or (points_in v symbols items) (first_at_point (points_rules v symbols text [] items))) (sym said)
+    ∙ ap (points_or (points_in version symbols items)) is
 
 -- what a reading of the points tells of the file
-pub points_told : (bytes : List ℕ) (symbols : List Symbol) (text : List Span) (file : Members) (items : Items) (r : Result (List Point) PointsFault)
+pub points_told : (bytes : List ℕ) (symbols : List Symbol) (text : List Span) (file : Members) (version : Version) (items : Items) (r : Result (List Point) PointsFault)
     → document_of bytes ≡ Some file
     → first_at_file (file_rules file) ≡ None
+    → version ≡ version_of file
     → items ≡ point_items file
-    → Tells r (first_at_point (points_rules symbols text [] items))
-    → IfOk r (λ points. points ≡ points_in symbols items)
+    → Tells r (first_at_point (points_rules version symbols text [] items))
+    → IfOk r (λ points. points ≡ points_in version symbols items)
     → IfOk r (λ points. points_of bytes symbols text ≡ Ok points)
-points_told bytes symbols text file items (Ok points) document kept same tells list =
-    points_of-points bytes symbols text file items None document kept same tells ∙ ap Ok (sym list)
-points_told bytes symbols text file items (Err e) document kept same tells list = tt
+points_told bytes symbols text file version items (Ok points) document kept said same tells list =
+    points_of-points bytes symbols text file version items None document kept said same tells ∙ ap Ok (sym list)
+points_told bytes symbols text file version items (Err e) document kept said same tells list = tt
