@@ -1,6 +1,6 @@
 -- The points of a file, or its first broken rule, as far as the rules have been tried.
-use Rattle.std.proofs.Common.{◌≡◌, ℕ, List, [], sym, ap, subst, ◌∙◌}
-use Rattle.std.specs.Prelude.{Option, Some, None, Result, Ok, Err, IfOk}
+use Rattle.std.proofs.Common.{◌≡◌, ◌⊎◌, inl, inr, refl, rules, ℕ, List, [], sym, ap, subst, ◌∙◌}
+use Rattle.std.specs.Prelude.{Option, Some, None, Result, Ok, Err, IfOk, IsOk, IsErrOf}
 use Rattle.std.specs.Option.{option_or}
 use Rattle.guest_words.specs.declared.image.Span.{Span}
 use Rattle.guest_words.specs.declared.point.Point.{Point}
@@ -10,7 +10,7 @@ use Rattle.rescue_config.specs.declared.version.Version.{Version}
 use Rattle.rescue_config.specs.Version.{version_of}
 use Rattle.rescue_config.specs.declared.point_fault.PointFault.{PointFault}
 use Rattle.rescue_config.specs.declared.points_fault.PointsFault.{PointsFault}
-use Rattle.rescue_config.specs.declared.points_fault.PointsFault.TheVariants.{Points}
+use Rattle.rescue_config.specs.declared.points_fault.PointsFault.TheVariants.{Points, Memory}
 use Rattle.rescue_config.specs.Document.{document_of, point_items, file_rules, points_rules, points_in, first_at_file, first_at_point, points_or, points_of_document, points_of}
 use Rattle.rescue_config.specs.Tells.{IsCause, Tells, unparsed}
 
@@ -68,3 +68,22 @@ pub points_told : (bytes : List ℕ) (symbols : List Symbol) (text : List Span) 
 points_told bytes symbols text file version items (Ok points) document kept said same tells list =
     points_of-points bytes symbols text file version items None document kept said same tells ∙ ap Ok (sym list)
 points_told bytes symbols text file version items (Err e) document kept said same tells list = tt
+
+-- an answer that tells the points and the first broken rule is the one that the file gives
+pub refused : (r : Result (List Point) PointsFault) (file : Result (List Point) (PointFault × Option ℕ))
+    → IfOk r (λ points. file ≡ Ok points)
+    → ((fault : PointFault) (place : Option ℕ) → IsErrOf r (Points fault place) → file ≡ Err (fault, place))
+    → (fault : PointFault) (place : Option ℕ) → file ≡ Err (fault, place) → IsErrOf r (Points fault place) ⊎ IsErrOf r Memory
+refused (Ok points) file ok cause fault place is = cc
+refused (Err Memory) file ok cause fault place is = inr refl
+refused (Err (Points other at)) file ok cause fault place is =
+    let told = cause other at refl in
+    let same : (other, at) ≡ (fault, place) = cc in
+    inl (ap (λ (x : PointFault × Option ℕ). Err (Points x.0 x.1)) same)
+
+pub accepted : (r : Result (List Point) PointsFault) (file : Result (List Point) (PointFault × Option ℕ))
+    → ((fault : PointFault) (place : Option ℕ) → IsErrOf r (Points fault place) → file ≡ Err (fault, place))
+    → IsOk file → IsOk r ⊎ IsErrOf r Memory
+accepted (Ok points) file cause is = inl refl
+accepted (Err Memory) file cause is = inr refl
+accepted (Err (Points other at)) file cause is = absurd (let told = cause other at refl in search (rules, told))

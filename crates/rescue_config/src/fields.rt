@@ -9,8 +9,8 @@ ghost use Rattle.rescue_config.specs.Tells.{Tells};
 use crate::member::{has_only_point_keys, member};
 use crate::point_fault::PointFault;
 use crate::points_fault::PointsFault;
-use crate::target::{Target, read_target};
 use crate::rescues::{Rescues, read_rescues};
+use crate::target::{Target, read_target};
 use crate::values::as_kind;
 use crate::version::Version;
 use guest_words::Kind;
@@ -39,11 +39,7 @@ fn read_kind(version: Version, table: &Table, number: u32) -> Result<Kind, Point
 }
 
 /// The fields of the table of the point with this number.
-pub fn read_fields(
-    version: Version,
-    table: &Table,
-    number: u32,
-) -> Result<Fields<'_>, PointsFault>
+pub fn read_fields(version: Version, table: &Table, number: u32) -> Result<Fields<'_>, PointsFault>
     ensures rules { Tells result
         (first_at_point (field_rules version number (table_view table.now))) }
     ensures fields { IfOk result (AreFields version (table_view table.now)) }

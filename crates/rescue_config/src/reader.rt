@@ -1,4 +1,4 @@
-ghost use Rattle.std.specs.Prelude.{◌≡◌, ◌≤◌, ◌<◌, ℕ, true, [], ◌∷◌, ◌++◌, length, Option, Ok, Err, IfOk, OnOk, IsSome, IsErrOf};
+ghost use Rattle.std.specs.Prelude.{◌≡◌, ◌≤◌, ◌<◌, ℕ, true, [], ◌∷◌, ◌++◌, length, Option, Ok, Err, IfOk, OnOk, IsOk, IsSome, IsErrOf, ◌⊎◌};
 ghost use Rattle.guest_words.specs.Points.{IsPointList};
 ghost use Rattle.toml.specs.Data.{as_table};
 ghost use Rattle.toml.specs.View.{view, items_view, table_view};
@@ -97,6 +97,14 @@ pub fn read_points(
     ensures cause { (fault : PointFault) (place : Option ℕ)
         → IsErrOf result (PointsFault.Points fault place)
         → points_of bytes.now symbols.now text.now ≡ Err (fault, place) }
+
+    // And then it is named, and where none is broken the points are answered; but memory may be
+    // wanting.
+    ensures refuses { (fault : PointFault) (place : Option ℕ)
+        → points_of bytes.now symbols.now text.now ≡ Err (fault, place)
+        → IsErrOf result (PointsFault.Points fault place) ⊎ IsErrOf result PointsFault.Memory }
+    ensures accepts { IsOk (points_of bytes.now symbols.now text.now)
+        → IsOk result ⊎ IsErrOf result PointsFault.Memory }
 {
     let file = parse(alloc, bytes)?;
     let tables = check_file(&file)?;

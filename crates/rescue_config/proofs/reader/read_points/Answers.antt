@@ -1,9 +1,9 @@
 use Rattle.std.proofs.Common.{rules, []}
 use Rattle.std.specs.Prelude.{Some}
 use Rattle.toml.specs.View.{items_view, table_view}
-use Rattle.rescue_config.specs.Document.{document_of, file_rules, points_rules, first_at_file, first_at_point}
+use Rattle.rescue_config.specs.Document.{document_of, file_rules, points_rules, first_at_file, first_at_point, points_of}
 use Rattle.rescue_config.specs.Tells.{Tells, unparsed}
-use Rattle.rescue_config.proofs.Results.{err_told, points_of-unparsed, points_of-file, points_of-points, points_told}
+use Rattle.rescue_config.proofs.Results.{err_told, points_of-unparsed, points_of-file, points_of-points, points_told, refused, accepted}
 use Rattle.rescue_config.proofs.reader.read_points.Goals as goal
 
 pub returns-in_err-file-clause-cause : goal.returns-in_err-file-clause-cause
@@ -28,3 +28,27 @@ returns-clause-cause c = λ fault place is.
     let items = items_view c.in_ok-tables.tables.values.now in
     let broken = first_at_point (points_rules c.in_ok-tables.tables.version c.args.symbols.now c.args.text.now [] items) in
     points_of-points c.args.bytes.now c.args.symbols.now c.args.text.now (table_view c.in_ok-file.file) c.in_ok-tables.tables.version items (Some (fault, place)) c.in_ok-file.ensures.file c.in_ok-tables.ensures.rules c.in_ok-tables.ensures.version c.in_ok-tables.ensures.values (err_told c.read_tables.result broken fault place c.read_tables.ensures.rules is)
+
+pub returns-in_err-file-clause-refuses : goal.returns-in_err-file-clause-refuses
+returns-in_err-file-clause-refuses c =
+    refused c.from_residual.result (points_of c.args.bytes.now c.args.symbols.now c.args.text.now) (search rules) (returns-in_err-file-clause-cause c)
+
+pub returns-in_err-file-clause-accepts : goal.returns-in_err-file-clause-accepts
+returns-in_err-file-clause-accepts c =
+    accepted c.from_residual.result (points_of c.args.bytes.now c.args.symbols.now c.args.text.now) (returns-in_err-file-clause-cause c)
+
+pub returns-in_err-tables-clause-refuses : goal.returns-in_err-tables-clause-refuses
+returns-in_err-tables-clause-refuses c =
+    refused c.from_residual-in_err-tables.result (points_of c.args.bytes.now c.args.symbols.now c.args.text.now) (search rules) (returns-in_err-tables-clause-cause c)
+
+pub returns-in_err-tables-clause-accepts : goal.returns-in_err-tables-clause-accepts
+returns-in_err-tables-clause-accepts c =
+    accepted c.from_residual-in_err-tables.result (points_of c.args.bytes.now c.args.symbols.now c.args.text.now) (returns-in_err-tables-clause-cause c)
+
+pub returns-clause-refuses : goal.returns-clause-refuses
+returns-clause-refuses c =
+    refused c.read_tables.result (points_of c.args.bytes.now c.args.symbols.now c.args.text.now) (returns-clause-ok c) (returns-clause-cause c)
+
+pub returns-clause-accepts : goal.returns-clause-accepts
+returns-clause-accepts c =
+    accepted c.read_tables.result (points_of c.args.bytes.now c.args.symbols.now c.args.text.now) (returns-clause-cause c)
