@@ -2,7 +2,7 @@
 use Rattle.std.proofs.Common.{◌≡◌, ℕ, Bool, ◌&&◌, List, [], ◌∷◌, Some, None, String, Global, string_bytes, length, refl, ap, arith}
 use Rattle.std.specs.Prelude.{is_some}
 use Rattle.std.specs.List.{list_all}
-use Rattle.std.specs.Map.{keys_of}
+use Rattle.std.specs.Map.{keys_of, values_of}
 use Rattle.std.specs.Str.{IsUtf8}
 use Rattle.std.proofs.lemmas.Str.{is_utf8-from_IsUtf8}
 use Rattle.elf_symbols.proofs.Entries.{not_utf8}
@@ -11,11 +11,15 @@ use Rattle.toml.specs.Parse.{parse_document}
 use Rattle.toml.specs.View.{view, items_view, members_view}
 use Rattle.toml.specs.declared.value.Value.{Value}
 use Rattle.rescue_config.specs.Document.{count_of, document_of}
-use Rattle.rescue_config.specs.Fields.{has_only, are_tables, is_table_list}
+use Rattle.rescue_config.specs.Fields.{has_only, are_rets, ret_in, are_tables, is_table_list}
 
 pub has_only-list_all : (test : List ℕ → Bool) (entries : List (String Global × Value)) → list_all (λ key. test (string_bytes key)) (keys_of entries) ≡ has_only test (members_view entries)
 has_only-list_all test [] = refl
 has_only-list_all test (e ∷ es) = ap (λ b. test (string_bytes e.0) && b) (has_only-list_all test es)
+
+pub are_rets-list_all : (entries : List (String Global × Value)) → list_all (λ v. is_some (ret_in (view v))) (values_of entries) ≡ are_rets (members_view entries)
+are_rets-list_all [] = refl
+are_rets-list_all (e ∷ es) = ap (λ b. is_some (ret_in (view e.1)) && b) (are_rets-list_all es)
 
 pub are_tables-list_all : (values : List Value) → list_all (λ v. is_some (as_table (view v))) values ≡ are_tables (items_view values)
 are_tables-list_all [] = refl

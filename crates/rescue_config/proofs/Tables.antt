@@ -12,6 +12,7 @@ use Rattle.toml.specs.Data.{item, as_table}
 use Rattle.toml.specs.View.{view, items_view}
 use Rattle.toml.specs.declared.value.Value.{Value}
 use Rattle.toml.proofs.Views.{items_view-drop}
+use Rattle.rescue_config.specs.declared.version.Version.{Version}
 use Rattle.rescue_config.specs.declared.point_fault.PointFault.{PointFault}
 use Rattle.rescue_config.specs.declared.points_fault.PointsFault.{PointsFault}
 use Rattle.rescue_config.specs.Document.{first_at_point, points_rules, points_in, members_in}
@@ -21,9 +22,9 @@ use Rattle.rescue_config.specs.Tells.{IsCause}
 use Rattle.rescue_config.proofs.RuleLists.{kept_next, cause_first}
 
 -- the points of the first k values were read: what is left of the rules and the list is all of it
-pub record AreRead (symbols : List Symbol) (text : List Span) (values : List Value) (k : ℕ) (points : List Point) : Type 0 where
-  pub rules : first_at_point (points_rules symbols text points (items_view (drop k values))) ≡ first_at_point (points_rules symbols text [] (items_view values))
-  pub list : points ++ points_in symbols (items_view (drop k values)) ≡ points_in symbols (items_view values)
+pub record AreRead (version : Version) (symbols : List Symbol) (text : List Span) (values : List Value) (k : ℕ) (points : List Point) : Type 0 where
+  pub rules : first_at_point (points_rules version symbols text points (items_view (drop k values))) ≡ first_at_point (points_rules version symbols text [] (items_view values))
+  pub list : points ++ points_in version symbols (items_view (drop k values)) ≡ points_in version symbols (items_view values)
   pub tables : are_tables (items_view (drop k values)) ≡ true
   pub count : length points ≡ k
   pub distinct : IsPointList points
@@ -36,77 +37,77 @@ pub IsNext-get_or : (values : List Value) (k : ℕ) (value : Value) → k < leng
 IsNext-get_or values k value below is =
     items_view-drop values k value below ∙ ap (λ v. item (view v) (items_view (drop (k + 1) values))) (sym is)
 
-pub AreRead-none : (symbols : List Symbol) (text : List Span) (values : List Value) → are_tables (items_view values) ≡ true → AreRead symbols text values 0 []
-AreRead-none symbols text values tables =
+pub AreRead-none : (version : Version) (symbols : List Symbol) (text : List Span) (values : List Value) → are_tables (items_view values) ≡ true → AreRead version symbols text values 0 []
+AreRead-none version symbols text values tables =
     record { rules = refl; list = refl; tables = tables; count = refl; distinct = IsPointList-none }
 
-pub IsTable-next : (symbols : List Symbol) (text : List Span) (values : List Value) (k : ℕ) (points : List Point) (value : Value)
-    → IsNext values k value → AreRead symbols text values k points → IsSome (as_table (view value))
-IsTable-next symbols text values k points value next read =
+pub IsTable-next : (version : Version) (symbols : List Symbol) (text : List Span) (values : List Value) (k : ℕ) (points : List Point) (value : Value)
+    → IsNext values k value → AreRead version symbols text values k points → IsSome (as_table (view value))
+IsTable-next version symbols text values k points value next read =
     (and_parts _ (are_tables (items_view (drop (k + 1) values))) (sym (ap are_tables next) ∙ read.tables)).0
 
 -- the rules and the list from a value on, and from the one behind it
-rules_from : (symbols : List Symbol) (text : List Span) (values : List Value) (k : ℕ) (points : List Point) (value : Value)
+rules_from : (version : Version) (symbols : List Symbol) (text : List Span) (values : List Value) (k : ℕ) (points : List Point) (value : Value)
     → IsNext values k value
     → (let point = members_in (view value) in
-    points_rules symbols text points (items_view (drop k values))
-    ≡ point_rules symbols text points point ++ points_rules symbols text (points ++ point_of symbols point ∷ []) (items_view (drop (k + 1) values)))
+    points_rules version symbols text points (items_view (drop k values))
+    ≡ point_rules version symbols text points point ++ points_rules version symbols text (points ++ point_of version symbols point ∷ []) (items_view (drop (k + 1) values)))
 unfolding points_rules
-rules_from symbols text values k points value next = ap (points_rules symbols text points) next
+rules_from version symbols text values k points value next = ap (points_rules version symbols text points) next
 
-list_from : (symbols : List Symbol) (values : List Value) (k : ℕ) (value : Value)
+list_from : (version : Version) (symbols : List Symbol) (values : List Value) (k : ℕ) (value : Value)
     → IsNext values k value
-    → points_in symbols (items_view (drop k values)) ≡ point_of symbols (members_in (view value)) ∷ points_in symbols (items_view (drop (k + 1) values))
+    → points_in version symbols (items_view (drop k values)) ≡ point_of version symbols (members_in (view value)) ∷ points_in version symbols (items_view (drop (k + 1) values))
 unfolding points_in
-list_from symbols values k value next = ap (points_in symbols) next
+list_from version symbols values k value next = ap (points_in version symbols) next
 
-pub AreRead-next : (symbols : List Symbol) (text : List Span) (values : List Value) (k : ℕ) (points more : List Point) (value : Value)
+pub AreRead-next : (version : Version) (symbols : List Symbol) (text : List Span) (values : List Value) (k : ℕ) (points more : List Point) (value : Value)
     → IsNext values k value
-    → AreRead symbols text values k points
-    → first_at_point (point_rules symbols text points (members_in (view value))) ≡ None
-    → more ≡ points ++ point_of symbols (members_in (view value)) ∷ []
+    → AreRead version symbols text values k points
+    → first_at_point (point_rules version symbols text points (members_in (view value))) ≡ None
+    → more ≡ points ++ point_of version symbols (members_in (view value)) ∷ []
     → IsPointList more
-    → AreRead symbols text values (k + 1) more
-AreRead-next symbols text values k points more value next read kept is distinct =
+    → AreRead version symbols text values (k + 1) more
+AreRead-next version symbols text values k points more value next read kept is distinct =
     let point = members_in (view value) in
     let rest = items_view (drop (k + 1) values) in
     record {
       rules =
-          ap (λ ps. first_at_point (points_rules symbols text ps rest)) is
-          ∙ sym (kept_next (point_rules symbols text points point) (points_rules symbols text (points ++ point_of symbols point ∷ []) rest) kept)
-          ∙ sym (ap first_at_point (rules_from symbols text values k points value next))
+          ap (λ ps. first_at_point (points_rules version symbols text ps rest)) is
+          ∙ sym (kept_next (point_rules version symbols text points point) (points_rules version symbols text (points ++ point_of version symbols point ∷ []) rest) kept)
+          ∙ sym (ap first_at_point (rules_from version symbols text values k points value next))
           ∙ read.rules;
       list =
-          ap (λ ps. ps ++ points_in symbols rest) is
-          ∙ append_assoc points (point_of symbols point ∷ []) (points_in symbols rest)
-          ∙ sym (ap (λ ps. points ++ ps) (list_from symbols values k value next))
+          ap (λ ps. ps ++ points_in version symbols rest) is
+          ∙ append_assoc points (point_of version symbols point ∷ []) (points_in version symbols rest)
+          ∙ sym (ap (λ ps. points ++ ps) (list_from version symbols values k value next))
           ∙ read.list;
       tables = (and_parts _ (are_tables rest) (sym (ap are_tables next) ∙ read.tables)).1;
-      count = ap length is ∙ length-append points (point_of symbols point ∷ []) ∙ ap (λ n. n + 1) read.count;
+      count = ap length is ∙ length-append points (point_of version symbols point ∷ []) ∙ ap (λ n. n + 1) read.count;
       distinct = distinct;
     }
 
 -- the first broken rule of the next point is the first of all
-pub AreRead-broken : (symbols : List Symbol) (text : List Span) (values : List Value) (k : ℕ) (points : List Point) (value : Value) (fault : PointsFault)
+pub AreRead-broken : (version : Version) (symbols : List Symbol) (text : List Span) (values : List Value) (k : ℕ) (points : List Point) (value : Value) (fault : PointsFault)
     → IsNext values k value
-    → AreRead symbols text values k points
-    → IsCause fault (first_at_point (point_rules symbols text points (members_in (view value))))
-    → IsCause fault (first_at_point (points_rules symbols text [] (items_view values)))
-AreRead-broken symbols text values k points value fault next read cause =
+    → AreRead version symbols text values k points
+    → IsCause fault (first_at_point (point_rules version symbols text points (members_in (view value))))
+    → IsCause fault (first_at_point (points_rules version symbols text [] (items_view values)))
+AreRead-broken version symbols text values k points value fault next read cause =
     let point = members_in (view value) in
     let rest = items_view (drop (k + 1) values) in
     let P : Option (PointFault × Option ℕ) → Type 0 = λ broken. IsCause fault broken in
-    let all = sym (ap first_at_point (rules_from symbols text values k points value next)) ∙ read.rules in
-    subst P all (cause_first fault (point_rules symbols text points point) (points_rules symbols text (points ++ point_of symbols point ∷ []) rest) cause)
+    let all = sym (ap first_at_point (rules_from version symbols text values k points value next)) ∙ read.rules in
+    subst P all (cause_first fault (point_rules version symbols text points point) (points_rules version symbols text (points ++ point_of version symbols point ∷ []) rest) cause)
 
 -- all of them were read
-pub AreRead-all : (symbols : List Symbol) (text : List Span) (values : List Value) (k : ℕ) (points : List Point)
+pub AreRead-all : (version : Version) (symbols : List Symbol) (text : List Span) (values : List Value) (k : ℕ) (points : List Point)
     → length values ≤ k
-    → AreRead symbols text values k points
-    → (first_at_point (points_rules symbols text [] (items_view values)) ≡ None) × (points ≡ points_in symbols (items_view values))
+    → AreRead version symbols text values k points
+    → (first_at_point (points_rules version symbols text [] (items_view values)) ≡ None) × (points ≡ points_in version symbols (items_view values))
 unfolding points_rules points_in
-AreRead-all symbols text values k points past read =
+AreRead-all version symbols text values k points past read =
     let none = drop_all k values past in (
-      sym read.rules ∙ ap (λ vs. first_at_point (points_rules symbols text points (items_view vs))) none,
-      sym (append-nil points) ∙ sym (ap (λ vs. points ++ points_in symbols (items_view vs)) none) ∙ read.list,
+      sym read.rules ∙ ap (λ vs. first_at_point (points_rules version symbols text points (items_view vs))) none,
+      sym (append-nil points) ∙ sym (ap (λ vs. points ++ points_in version symbols (items_view vs)) none) ∙ read.list,
     )

@@ -4,3 +4,4 @@ pub mod PointFault
 pub mod PointRules
 pub mod ReadFields
 pub mod Tells
+pub mod Version

@@ -2,12 +2,14 @@ ghost use Rattle.std.specs.Prelude.{◌≡◌, ◌≤◌, true, length, IfOk};
 ghost use Rattle.toml.specs.View.{items_view, table_view};
 ghost use Rattle.rescue_config.specs.Document.{document_of, first_at_file, file_rules, point_items};
 ghost use Rattle.rescue_config.specs.Fields.{are_tables};
+ghost use Rattle.rescue_config.specs.Version.{version_said, version_of};
 ghost use Rattle.rescue_config.specs.Tells.{Tells, unparsed};
 
 use crate::member::{has_only_file_keys, member};
 use crate::point_fault::PointFault;
 use crate::points_fault::PointsFault;
-use crate::values::{is_table_list, is_version};
+use crate::values::{as_version, is_table_list};
+use crate::version::Version;
 use guest_words::limits::POINTS;
 use std::alloc::Global;
 use toml::{Table, Value};
@@ -40,20 +42,38 @@ fn point_values(file: &Table) -> &[Value]
     }
 }
 
-/// Tries the rules on the whole file, and answers the values of its points.
-pub fn check_file(file: &Table) -> Result<&[Value], PointsFault>
+/// The version that the file says, if it is one: the first where it says none.
+fn version_in(file: &Table) -> Option<Version>
+    ensures { result ≡ version_said (table_view file.now) }
+{
+    match member(file, "version") {
+        None => Some(Version::One),
+        Some(value) => as_version(value),
+    }
+}
+
+/// The tables of a file's points, and the version that they are written in.
+#[derive(Clone, Copy, Debug)]
+pub struct PointTables<'a> {
+    pub version: Version,
+    pub values: &'a [Value],
+}
+
+/// Tries the rules on the whole file, and answers what it says of its points.
+pub fn check_file(file: &Table) -> Result<PointTables<'_>, PointsFault>
     ensures rules { Tells result (first_at_file (file_rules (table_view file.now))) }
-    ensures values { IfOk result (λ values.
-        items_view values.now ≡ point_items (table_view file.now)) }
-    ensures tables { IfOk result (λ values. are_tables (items_view values.now) ≡ true) }
-    ensures few { IfOk result (λ values. length values.now ≤ 256) }
+    ensures version { IfOk result (λ points. points.version ≡ version_of (table_view file.now)) }
+    ensures values { IfOk result (λ points.
+        items_view points.values.now ≡ point_items (table_view file.now)) }
+    ensures tables { IfOk result (λ points. are_tables (items_view points.values.now) ≡ true) }
+    ensures few { IfOk result (λ points. length points.values.now ≤ 256) }
 {
     if !has_only_file_keys(file) {
         return Err(PointsFault::of_file(PointFault::UnknownKey));
     }
-    if member(file, "version").is_some_and(|value| !is_version(value)) {
+    let Some(version) = version_in(file) else {
         return Err(PointsFault::of_file(PointFault::BadVersion));
-    }
+    };
     if member(file, "point").is_some_and(|value| !is_table_list(value)) {
         return Err(PointsFault::of_file(PointFault::BadValue));
     }
@@ -62,5 +82,5 @@ pub fn check_file(file: &Table) -> Result<&[Value], PointsFault>
         let count = values.len() as u64;
         return Err(PointsFault::of_file(PointFault::TooMany { count }));
     }
-    Ok(values)
+    Ok(PointTables { version, values })
 }

@@ -1,6 +1,7 @@
 //! The rescue points that a rescue file names.
 #![tactic(auto)]
 
+mod codes;
 mod document;
 mod fields;
 mod member;
@@ -8,10 +9,12 @@ mod point;
 mod point_fault;
 mod points_fault;
 mod reader;
+mod rescues;
 mod target;
 #[cfg(test)]
 mod tests;
 mod values;
+mod version;
 
 pub use point_fault::PointFault;
 pub use points_fault::PointsFault;

@@ -1,4 +1,4 @@
-ghost use Rattle.std.specs.Prelude.{◌≡◌, ◌≤◌, ◌<◌, ℕ, true, [], ◌∷◌, ◌++◌, length, Option, Ok, Err, IfOk, OnOk, IsSome, IsErrOf};
+ghost use Rattle.std.specs.Prelude.{◌≡◌, ◌≤◌, ◌<◌, ℕ, true, [], ◌∷◌, ◌++◌, length, Option, Ok, Err, IfOk, OnOk, IsOk, IsSome, IsErrOf, ◌⊎◌};
 ghost use Rattle.guest_words.specs.Points.{IsPointList};
 ghost use Rattle.toml.specs.Data.{as_table};
 ghost use Rattle.toml.specs.View.{view, items_view, table_view};
@@ -11,6 +11,7 @@ ghost use Rattle.rescue_config.specs.Tells.{Tells};
 use crate::document::{check_file, parse};
 use crate::point::read_point;
 use crate::points_fault::PointsFault;
+use crate::version::Version;
 use elf_symbols::Symbols;
 use guest_words::{Point, Points, Span};
 use std::alloc::Global;
@@ -27,6 +28,7 @@ fn table_of(value: &Value) -> &Table
 /// Adds the point of the next table.
 fn add_point(
     points: &mut Vec<Point>,
+    version: Version,
     value: &Value,
     symbols: &Symbols,
     text: &[Span],
@@ -35,12 +37,12 @@ fn add_point(
     requires room { length points.old.items < 256 }
     requires list { IsPointList points.old.items }
     ensures rules { Tells result (first_at_point
-        (point_rules symbols.now text.now points.old.items (members_in (view value.now)))) }
+        (point_rules version symbols.now text.now points.old.items (members_in (view value.now)))) }
     ensures ok { OnOk result (points.new.items
-        ≡ points.old.items ++ point_of symbols.now (members_in (view value.now)) ∷ []) }
+        ≡ points.old.items ++ point_of version symbols.now (members_in (view value.now)) ∷ []) }
     ensures list { OnOk result (IsPointList points.new.items) }
 {
-    let point = read_point(table_of(value), symbols, text, points.as_slice())?;
+    let point = read_point(version, table_of(value), symbols, text, points.as_slice())?;
     match points.push(point) {
         Ok(()) => Ok(()),
         Err(_) => Err(PointsFault::Memory),
@@ -50,6 +52,7 @@ fn add_point(
 /// The points of the tables, in order.
 fn read_tables(
     alloc: Global,
+    version: Version,
     values: &[Value],
     symbols: &Symbols,
     text: &[Span],
@@ -57,13 +60,13 @@ fn read_tables(
     requires tables { are_tables (items_view values.now) ≡ true }
     requires few { length values.now ≤ 256 }
     ensures rules { Tells result (first_at_point
-        (points_rules symbols.now text.now [] (items_view values.now))) }
+        (points_rules version symbols.now text.now [] (items_view values.now))) }
     ensures list { IfOk result (λ points.
-        points ≡ points_in symbols.now (items_view values.now)) }
+        points ≡ points_in version symbols.now (items_view values.now)) }
 {
     let mut points = Vec::with_capacity(alloc, values.len())?;
     for value in values {
-        add_point(&mut points, value, symbols, text)?;
+        add_point(&mut points, version, value, symbols, text)?;
     }
     Ok(Points::of(points))
 }
@@ -71,11 +74,16 @@ fn read_tables(
 /// The points of a rescue file, in its order, or the first rule that it breaks, with the number of
 /// the point that breaks it, counted from 0.
 ///
-/// A rescue file is a TOML document in UTF-8. Its key `version` is 1, and may be absent. Its tables
-/// `point` have the keys `function`, the name of one of the symbols, or `entry`, a guest address;
-/// `returns`, an integer modulo 2 ^ 64 or the text `void`; and `kind`, `blocking` or `off`, and
-/// blocking where it is absent. `text` are the ranges of the executable loads. The rules are those
-/// of [`PointFault`](crate::PointFault): first those on the whole file, then those on each point in
+/// A rescue file is a TOML document in UTF-8. Its key `version` is 1, 2 or 3, and 1 where it is
+/// absent. Its tables `point` have the keys
+/// - `function`, the name of one of the symbols, or `entry`, a guest address;
+/// - `returns`, an integer modulo 2 ^ 64 or the text `void`;
+/// - from version 2 on `codes`, a table with what is returned for the faults that it names instead
+///   of `returns`, and `limit`, an integer from 1 to 1,000,000, and any number where it is absent;
+/// - `kind`, `blocking`, `off` or, in version 3, `loose`, and blocking where it is absent.
+///
+/// `text` are the ranges of the executable loads. The rules are those of
+/// [`PointFault`](crate::PointFault): first those on the whole file, then those on each point in
 /// order. Points that are off are checked as all others.
 pub fn read_points(
     alloc: Global,
@@ -89,8 +97,16 @@ pub fn read_points(
     ensures cause { (fault : PointFault) (place : Option ℕ)
         → IsErrOf result (PointsFault.Points fault place)
         → points_of bytes.now symbols.now text.now ≡ Err (fault, place) }
+
+    // And then it is named, and where none is broken the points are answered; but memory may be
+    // wanting.
+    ensures refuses { (fault : PointFault) (place : Option ℕ)
+        → points_of bytes.now symbols.now text.now ≡ Err (fault, place)
+        → IsErrOf result (PointsFault.Points fault place) ⊎ IsErrOf result PointsFault.Memory }
+    ensures accepts { IsOk (points_of bytes.now symbols.now text.now)
+        → IsOk result ⊎ IsErrOf result PointsFault.Memory }
 {
     let file = parse(alloc, bytes)?;
-    let values = check_file(&file)?;
-    read_tables(alloc, values, symbols, text)
+    let tables = check_file(&file)?;
+    read_tables(alloc, tables.version, tables.values, symbols, text)
 }

@@ -38,7 +38,7 @@ type Case = (&'static str, PointFault, Option<u32>);
 const RULES: [Case; 21] = [
     ("point = ", PointFault::Toml, None),
     ("size = 1", PointFault::UnknownKey, None),
-    ("version = 2", PointFault::BadVersion, None),
+    ("version = 4", PointFault::BadVersion, None),
     ("version = true", PointFault::BadVersion, None),
     ("point = 1", PointFault::BadValue, None),
     ("point = [{}, 1]", PointFault::BadValue, None),
@@ -95,6 +95,68 @@ const RULES: [Case; 21] = [
     ),
 ];
 
+/// Each rule of versions 2 and 3 once or more, in order.
+const LATER_RULES: [Case; 11] = [
+    (
+        "version = 1\n[[point]]\ncodes = {}",
+        PointFault::UnknownKey,
+        Some(0),
+    ),
+    (
+        "version = 1\n[[point]]\nlimit = 1",
+        PointFault::UnknownKey,
+        Some(0),
+    ),
+    (
+        "version = 2\n[[point]]\nentry = 65536\nreturns = 0\ncodes = 1",
+        PointFault::BadCodes,
+        Some(0),
+    ),
+    (
+        "version = 2\n[[point]]\nentry = 65536\nreturns = 0\ncodes = { illegal = 'x' }",
+        PointFault::BadCodes,
+        Some(0),
+    ),
+    (
+        "version = 2\n[[point]]\nentry = 65536\nreturns = 0\nlimit = '1'",
+        PointFault::BadLimit,
+        Some(0),
+    ),
+    (
+        "version = 2\n[[point]]\nentry = 65536\nreturns = 0\nlimit = 1000001",
+        PointFault::BadLimit,
+        Some(0),
+    ),
+    (
+        "version = 2\n[[point]]\nentry = 65536\nreturns = 0\nkind = 'loose'",
+        PointFault::BadKind,
+        Some(0),
+    ),
+    (
+        "version = 3\n[[point]]\nentry = 65536\nreturns = 0\nkind = 'on'",
+        PointFault::BadKind,
+        Some(0),
+    ),
+    (
+        "version = 3\n[[point]]\nentry = 65536\nreturns = 0\nkind = 'loose'
+        [[point]]\nentry = 65540\nreturns = 0",
+        PointFault::Mixed { first: 0 },
+        Some(1),
+    ),
+    (
+        "version = 3\n[[point]]\nentry = 65536\nreturns = 0\nkind = 'off'
+        [[point]]\nentry = 65540\nreturns = 0\n[[point]]\nentry = 65544\nreturns = 0
+        [[point]]\nentry = 65538\nreturns = 0\nkind = 'loose'",
+        PointFault::Mixed { first: 1 },
+        Some(3),
+    ),
+    (
+        "version = 3\n[[point]]\nentry = 65538\nreturns = 0\nkind = 'loose'",
+        PointFault::Misaligned,
+        Some(0),
+    ),
+];
+
 /// Two rules are broken: in one point, and in two points.
 const ORDERS: [Case; 2] = [
     (
@@ -127,6 +189,33 @@ fn rescue_files(rt: HostRuntime) -> Result<(), Fail> {
             "{file}"
         );
     }
+    Ok(())
+}
+
+#[test]
+fn later_rescue_files(rt: HostRuntime) -> Result<(), Fail> {
+    for (file, fault, place) in LATER_RULES {
+        let answer = read(rt.alloc(), file.as_bytes())?.err();
+        assert_eq!(rt;
+            answer,
+            Some(PointsFault::Points { fault, place }),
+            "{file}"
+        );
+    }
+    Ok(())
+}
+
+#[test]
+fn limits_refused(rt: HostRuntime) -> Result<(), Fail> {
+    let place = Some(0);
+    let none = b"version = 2\n[[point]]\nentry = 65536\nreturns = -1\nlimit = 0";
+    let answer = read(rt.alloc(), none)?.err();
+    let fault = PointFault::BadLimit;
+    assert_eq!(rt; answer, Some(PointsFault::Points { fault, place }));
+    let other = b"version = 2\n[[point]]\nentry = 65536\nreturns = -1\ncodes = { load = 1 }";
+    let answer = read(rt.alloc(), other)?.err();
+    let fault = PointFault::BadCodes;
+    assert_eq!(rt; answer, Some(PointsFault::Points { fault, place }));
     Ok(())
 }
 
@@ -175,10 +264,56 @@ fn point_of_a_function(rt: HostRuntime) -> Result<(), Fail> {
     let points = read(rt.alloc(), EXAMPLE.as_bytes())??;
     let want = Point {
         entry: 0x100b0,
-        ret: Ret::Code(u64::MAX),
+        codes: [Ret::Code(u64::MAX); 8],
         kind: Kind::Blocking,
+        left: None,
     };
     assert!(rt; points.items() == [want].as_slice());
+    Ok(())
+}
+
+const CODES: &str = "version = 2
+[[point]]
+entry = 65560
+returns = -2
+limit = 1000000
+codes = { load-rights = -4, blocked-in-point = 'void' }
+";
+
+#[test]
+fn code_by_fault_name(rt: HostRuntime) -> Result<(), Fail> {
+    let points = read(rt.alloc(), CODES.as_bytes())??;
+    let other = Ret::Code(u64::MAX - 1);
+    let load = Ret::Code(u64::MAX - 3);
+    let want = Point {
+        entry: 0x10018,
+        codes: [other, other, other, load, other, other, other, Ret::Void],
+        kind: Kind::Blocking,
+        left: Some(1_000_000),
+    };
+    assert!(rt; points.items() == [want].as_slice());
+    Ok(())
+}
+
+const LOOSE: &str = "version = 3
+[[point]]
+entry = 65560
+returns = -2
+kind = 'loose'
+limit = 1
+";
+
+#[test]
+fn loose_point(rt: HostRuntime) -> Result<(), Fail> {
+    let points = read(rt.alloc(), LOOSE.as_bytes())??;
+    let want = Point {
+        entry: 0x10018,
+        codes: [Ret::Code(u64::MAX - 1); 8],
+        kind: Kind::Loose,
+        left: Some(1),
+    };
+    assert!(rt; points.items() == [want].as_slice());
+    assert!(rt; points.has_loose());
     Ok(())
 }
 

@@ -2,16 +2,24 @@ ghost use Rattle.std.specs.Prelude.{◌≡◌, is_some};
 ghost use Rattle.std.specs.List.{list_all};
 ghost use Rattle.toml.specs.Data.{as_table};
 ghost use Rattle.toml.specs.View.{view};
-ghost use Rattle.rescue_config.specs.Fields.{is_version, is_table_list, address_in, ret_in, kind_in};
+ghost use Rattle.rescue_config.specs.Version.{version_in};
+ghost use Rattle.rescue_config.specs.Fields.{is_table_list, address_in, ret_in, limit_in, kind_in};
 
+use crate::version::Version;
+use guest_words::limits::RESCUES;
 use guest_words::{Kind, Ret};
 use toml::Value;
 
-/// Whether the value is the version of the format.
-pub fn is_version(value: &Value) -> bool
-    ensures { result ≡ is_version (view value.now) }
+/// The version that the value is, if it is one.
+pub fn as_version(value: &Value) -> Option<Version>
+    ensures { result ≡ version_in (view value.now) }
 {
-    matches!(value.as_integer(), Some(1))
+    match value.as_integer()? {
+        1 => Some(Version::One),
+        2 => Some(Version::Two),
+        3 => Some(Version::Three),
+        _ => None,
+    }
 }
 
 /// Whether all values are tables.
@@ -49,13 +57,26 @@ pub fn as_ret(value: &Value) -> Option<Ret>
     }
 }
 
-/// How a point takes part, if the value says it.
-pub fn as_kind(value: &Value) -> Option<Kind>
-    ensures { result ≡ kind_in (view value.now) }
+/// The greatest number of rescues of a point, if the value is one.
+pub fn as_limit(value: &Value) -> Option<u32>
+    ensures { result ≡ limit_in (view value.now) }
+{
+    let limit = u32::try_from(value.as_integer()?).ok()?;
+    if 1 <= limit && limit <= RESCUES {
+        Some(limit)
+    } else {
+        None
+    }
+}
+
+/// How a point takes part, if the value says it in a file of this version.
+pub fn as_kind(version: Version, value: &Value) -> Option<Kind>
+    ensures { result ≡ kind_in version (view value.now) }
 {
     match value.as_str()? {
         "blocking" => Some(Kind::Blocking),
         "off" => Some(Kind::Off),
+        "loose" if version.has_loose() => Some(Kind::Loose),
         _ => None,
     }
 }

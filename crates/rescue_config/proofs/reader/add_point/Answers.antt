@@ -12,8 +12,8 @@ returns-in-Ok-clause-list c =
     let points = c.args.points.now.items in
     let table = table_view c.table_of.result.now in
     let symbols = c.args.symbols.now in
-    let kept = ap (λ ps. first_at_point (point_rules symbols c.args.text.now ps table)) (sym c.as_slice.ensures.value) ∙ c.in_ok-point.ensures.rules in
-    let other = another_entry symbols c.args.text.now points table kept in
-    let longer = IsPointList-append points (point_of symbols table) c.requires.list c.requires.room other in
+    let kept = ap (λ ps. first_at_point (point_rules c.args.version symbols c.args.text.now ps table)) (sym c.as_slice.ensures.value) ∙ c.in_ok-point.ensures.rules in
+    let other = another_entry c.args.version symbols c.args.text.now points table kept in
+    let longer = IsPointList-append points (point_of c.args.version symbols table) c.requires.list c.requires.room other in
     let same = c.in-Ok.ensures.items ∙ ap (λ p. points ++ p ∷ []) c.in_ok-point.ensures.point in
     subst IsPointList (sym same) longer
