@@ -9,4 +9,4 @@ mod tests;
 
 pub use harts::Harts;
 pub use operation::amo;
-pub use reservation::holds;
+pub use reservation::{holds, touch};

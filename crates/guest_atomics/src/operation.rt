@@ -7,7 +7,7 @@ use rv_word::{low_32, signed, signed_32, sum, word_of};
 
 /// What an atomic instruction stores, where memory has `old` and rs2 is `operand`. Of a row on
 /// words of 32 bits it is below 2^32, whatever the high bits are.
-#[inline]
+#[inline(always)]
 pub fn amo(op: Op, old: u64, operand: u64) -> u64
     requires { (class_of op ≡ Class.Atomic 4) ⊎ (class_of op ≡ Class.Atomic 8) }
     ensures value { result ≡ amo_of op old operand }

@@ -15,8 +15,10 @@ pub fn holds(hart: &Hart, address: u64, width: u8) -> bool
     }
 }
 
-/// Ends the hart's reservation if it has a byte among the `size` bytes from `address` on.
-pub(crate) fn touch(hart: &mut Hart, address: u64, size: u64)
+/// Ends the hart's reservation if it has a byte among the `size` bytes from `address` on. Takes no
+/// memory.
+#[inline]
+pub fn touch(hart: &mut Hart, address: u64, size: u64)
     ensures value { hart.new ≡ touched address size hart.old }
 {
     if let Some(reserved) = hart.reservation

@@ -16,7 +16,10 @@ pub fn closed_after(hart: &Hart, frames: &[Frame]) -> usize
     }
 }
 
-fn is_over(hart: &Hart, frame: &Frame) -> bool
+/// Whether the call under a frame is over: the stack pointer is above that of the entry, or the
+/// hart is at the return address with the stack pointer of the entry. Takes no memory.
+#[inline(always)]
+pub fn is_over(hart: &Hart, frame: &Frame) -> bool
     ensures value { result ≡ is_over hart.now frame.now }
 {
     let sp = hart.regs[2];

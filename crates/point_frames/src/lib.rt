@@ -6,5 +6,5 @@ mod opening;
 #[cfg(test)]
 mod tests;
 
-pub use closing::closed_after;
+pub use closing::{closed_after, is_over};
 pub use opening::opened;

@@ -17,7 +17,7 @@ pub(crate) fn bits(word: u32, high: u32, low: u32) -> u32
 
 /// A number of so many bits, whose highest bit is its sign.
 #[inline]
-fn sign_extended(number: u32, width: u32) -> i64
+fn sign_extended(number: u32, width: u32) -> i32
     requires some { 0 < width }
     requires most { width ≤ 32 }
     requires within { number < 2 ^ width }
@@ -25,15 +25,16 @@ fn sign_extended(number: u32, width: u32) -> i64
 {
     let half = 1 << (width - 1);
     if number < half {
-        i64::from(number)
+        number as i32
     } else {
-        i64::from(number) - 2 * i64::from(half)
+        let short = (half - 1 - (number - half)) as i32;
+        -1 - short
     }
 }
 
 /// The immediate of a word in a format.
 #[inline]
-fn immediate(word: u32, format: Format) -> i64
+fn immediate(word: u32, format: Format) -> i32
     ensures { result ≡ immediate_of format word }
 {
     match format {
@@ -42,15 +43,15 @@ fn immediate(word: u32, format: Format) -> i64
         Format::Immediate => sign_extended(bits(word, 31, 20), 12),
         Format::Branch => branch_offset(word),
         Format::Store => sign_extended((bits(word, 31, 25) << 5) + bits(word, 11, 7), 12),
-        Format::Shift => i64::from(bits(word, 25, 20)),
-        Format::WordShift => i64::from(bits(word, 24, 20)),
+        Format::Shift => bits(word, 25, 20) as i32,
+        Format::WordShift => bits(word, 24, 20) as i32,
         Format::Register | Format::Bare => 0,
     }
 }
 
 /// How far a word of the jump format goes.
 #[inline]
-fn jump_offset(word: u32) -> i64
+fn jump_offset(word: u32) -> i32
     ensures { result ≡ immediate_of Format.Jump word }
 {
     let high = (bits(word, 31, 31) << 20) + (bits(word, 19, 12) << 12);
@@ -60,7 +61,7 @@ fn jump_offset(word: u32) -> i64
 
 /// How far a word of the branch format goes.
 #[inline]
-fn branch_offset(word: u32) -> i64
+fn branch_offset(word: u32) -> i32
     ensures { result ≡ immediate_of Format.Branch word }
 {
     let high = (bits(word, 31, 31) << 12) + (bits(word, 7, 7) << 11);

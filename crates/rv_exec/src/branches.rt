@@ -1,11 +1,11 @@
-ghost use Rattle.guest_words.specs.Effects.{class_of, is_taken, target_of};
+ghost use Rattle.guest_words.specs.Effects.{class_of, is_taken, jump_place};
 ghost use Rattle.std.specs.Prelude.{◌≡◌, ◌⊎◌};
 
-use guest_words::{Class, Inst, Op};
-use rv_word::{signed, sum, word_of};
+use guest_words::{Class, Op};
+use rv_word::{signed, sum};
 
 /// Whether a branch's condition holds, where rs1 is a and rs2 is b.
-#[inline]
+#[inline(always)]
 pub fn branch_taken(op: Op, a: u64, b: u64) -> bool
     requires { class_of op ≡ Class.Branch }
     ensures { result ≡ is_taken op a b }
@@ -21,15 +21,15 @@ pub fn branch_taken(op: Op, a: u64, b: u64) -> bool
     }
 }
 
-/// The address that a jump or a taken branch at pc goes to, where rs1 is a.
-#[inline]
-pub fn target(inst: &Inst, pc: u64, a: u64) -> u64
-    requires { (class_of inst.now.op ≡ Class.Jump) ⊎ (class_of inst.now.op ≡ Class.Branch) }
-    ensures { result ≡ target_of inst.now pc a }
+/// The address that a jump or a taken branch at pc goes to, where rs1 is a and the
+/// immediate is i.
+#[inline(always)]
+pub fn target(op: Op, pc: u64, a: u64, i: u64) -> u64
+    requires { (class_of op ≡ Class.Jump) ⊎ (class_of op ≡ Class.Branch) }
+    ensures { result ≡ jump_place op pc a i }
 {
-    let offset = word_of(inst.imm);
-    match inst.op {
-        Op::Jalr => sum(a, offset) & !1,
-        _ => sum(pc, offset),
+    match op {
+        Op::Jalr => sum(a, i) & !1,
+        _ => sum(pc, i),
     }
 }

@@ -1,7 +1,7 @@
-ghost use Rattle.guest_words.specs.Effects.{class_of, result_of};
+ghost use Rattle.guest_words.specs.Effects.{class_of, value_of};
 ghost use Rattle.std.specs.Prelude.{◌≡◌};
 
-use guest_words::{Class, Inst, Op};
+use guest_words::{Class, Op};
 use rv_word::{
     difference, high_mixed, high_signed, high_unsigned, product, quotient, quotient_32,
     quotient_unsigned, quotient_unsigned_32, remainder, remainder_32, remainder_unsigned,
@@ -9,14 +9,14 @@ use rv_word::{
     shift_right_signed, shift_right_signed_32, signed, sum, sx32, word_of,
 };
 
-/// The value that a register instruction puts into rd, where rs1 is a and rs2 is b.
-#[inline]
-pub fn alu(inst: &Inst, pc: u64, a: u64, b: u64) -> u64
-    requires { class_of inst.now.op ≡ Class.Register }
-    ensures { result ≡ result_of inst.now pc a b }
+/// The value that a register instruction puts into rd, where rs1 is a, rs2 is b and the immediate
+/// is i.
+#[inline(always)]
+pub fn alu(op: Op, pc: u64, a: u64, b: u64, i: u64) -> u64
+    requires { class_of op ≡ Class.Register }
+    ensures { result ≡ value_of op pc a b i }
 {
-    let i = word_of(inst.imm);
-    match inst.op {
+    match op {
         Op::Lui => i,
         Op::Auipc => sum(pc, i),
         Op::Addi => sum(a, i),

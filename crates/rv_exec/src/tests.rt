@@ -3,6 +3,7 @@
 use crate::{alu, branch_taken, target};
 use guest_words::{Class, Inst, Op};
 use rv_decode::decode;
+use rv_word::word_of;
 
 const PC: u64 = 0x10000;
 
@@ -31,7 +32,7 @@ const ENDS: [(Op, u64, u64, u64); 12] = [
 /// The value that a register instruction puts into rd.
 fn value(inst: &Inst, a: u64, b: u64) -> Option<u64> {
     if inst.op.class() == Class::Register {
-        Some(alu(inst, PC, a, b))
+        Some(alu(inst.op, PC, a, b, word_of(i64::from(inst.imm))))
     } else {
         None
     }
@@ -79,7 +80,10 @@ fn branches_and_jumps(rt: HostRuntime) {
         rs2: 0,
         imm: -4,
     };
-    assert_eq!(rt; target(&back, PC, 0), 0xfffc);
+    assert_eq!(rt;
+        target(back.op, PC, 0, word_of(i64::from(back.imm))),
+        0xfffc
+    );
     let odd = Inst {
         op: Op::Jalr,
         rd: 1,
@@ -87,5 +91,8 @@ fn branches_and_jumps(rt: HostRuntime) {
         rs2: 0,
         imm: 3,
     };
-    assert_eq!(rt; target(&odd, PC, 0x20000), 0x20002);
+    assert_eq!(rt;
+        target(odd.op, PC, 0x20000, word_of(i64::from(odd.imm))),
+        0x20002
+    );
 }

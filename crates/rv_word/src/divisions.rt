@@ -4,7 +4,7 @@ ghost use Rattle.std.specs.Prelude.{◌≡◌};
 use crate::readings::{low_32, signed, signed_32, sx32, word_of};
 
 /// The signed quotient, rounded to zero; -1 where b is 0 (DIV).
-#[inline]
+#[inline(always)]
 pub fn quotient(a: u64, b: u64) -> u64
     ensures { result ≡ Arithmetic.quotient a b }
 {
@@ -16,7 +16,7 @@ pub fn quotient(a: u64, b: u64) -> u64
 }
 
 /// The signed remainder, with the sign of a; a where b is 0 (REM).
-#[inline]
+#[inline(always)]
 pub fn remainder(a: u64, b: u64) -> u64
     ensures { result ≡ Arithmetic.remainder a b }
 {
@@ -28,7 +28,7 @@ pub fn remainder(a: u64, b: u64) -> u64
 }
 
 /// The unsigned quotient; all ones where b is 0 (DIVU).
-#[inline]
+#[inline(always)]
 pub fn quotient_unsigned(a: u64, b: u64) -> u64
     ensures { result ≡ Arithmetic.quotient_unsigned a b }
 {
@@ -36,7 +36,7 @@ pub fn quotient_unsigned(a: u64, b: u64) -> u64
 }
 
 /// The unsigned remainder; a where b is 0 (REMU).
-#[inline]
+#[inline(always)]
 pub fn remainder_unsigned(a: u64, b: u64) -> u64
     ensures { result ≡ Arithmetic.remainder_unsigned a b }
 {
@@ -44,7 +44,7 @@ pub fn remainder_unsigned(a: u64, b: u64) -> u64
 }
 
 /// The signed quotient of the low 32 bits, sign-extended; -1 where b's are 0 (DIVW).
-#[inline]
+#[inline(always)]
 pub fn quotient_32(a: u64, b: u64) -> u64
     ensures { result ≡ Arithmetic.quotient_32 a b }
 {
@@ -56,7 +56,7 @@ pub fn quotient_32(a: u64, b: u64) -> u64
 }
 
 /// The signed remainder of the low 32 bits, sign-extended; a's where b's are 0 (REMW).
-#[inline]
+#[inline(always)]
 pub fn remainder_32(a: u64, b: u64) -> u64
     ensures { result ≡ Arithmetic.remainder_32 a b }
 {
@@ -68,7 +68,7 @@ pub fn remainder_32(a: u64, b: u64) -> u64
 }
 
 /// The unsigned quotient of the low 32 bits, sign-extended; all ones where b's are 0 (DIVUW).
-#[inline]
+#[inline(always)]
 pub fn quotient_unsigned_32(a: u64, b: u64) -> u64
     ensures { result ≡ Arithmetic.quotient_unsigned_32 a b }
 {
@@ -80,7 +80,7 @@ pub fn quotient_unsigned_32(a: u64, b: u64) -> u64
 }
 
 /// The unsigned remainder of the low 32 bits, sign-extended; a's where b's are 0 (REMUW).
-#[inline]
+#[inline(always)]
 pub fn remainder_unsigned_32(a: u64, b: u64) -> u64
     ensures { result ≡ Arithmetic.remainder_unsigned_32 a b }
 {

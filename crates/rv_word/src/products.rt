@@ -6,7 +6,7 @@ ghost use Rattle.std.specs.Prelude.{◌≡◌};
 use crate::readings::{signed, word_of};
 
 /// a times b modulo 2^64 (MUL).
-#[inline]
+#[inline(always)]
 pub fn product(a: u64, b: u64) -> u64
     ensures { result ≡ Arithmetic.product a b }
 {
@@ -21,7 +21,7 @@ fn upper_half(product: i128) -> u64
 }
 
 /// The product of both signed readings divided by 2^64, rounded down (MULH).
-#[inline]
+#[inline(always)]
 pub fn high_signed(a: u64, b: u64) -> u64
     ensures { result ≡ Arithmetic.high_signed a b }
 {
@@ -29,7 +29,7 @@ pub fn high_signed(a: u64, b: u64) -> u64
 }
 
 /// The product of a signed and b unsigned divided by 2^64, rounded down (MULHSU).
-#[inline]
+#[inline(always)]
 pub fn high_mixed(a: u64, b: u64) -> u64
     ensures { result ≡ Arithmetic.high_mixed a b }
 {
@@ -37,7 +37,7 @@ pub fn high_mixed(a: u64, b: u64) -> u64
 }
 
 /// The product of both unsigned readings divided by 2^64 (MULHU).
-#[inline]
+#[inline(always)]
 pub fn high_unsigned(a: u64, b: u64) -> u64
     ensures { result ≡ Arithmetic.high_unsigned a b }
 {

@@ -2,7 +2,7 @@ ghost use Rattle.guest_words.specs.Word;
 ghost use Rattle.std.specs.Prelude.{◌≡◌};
 
 /// The low 32 bits of a word.
-#[inline]
+#[inline(always)]
 pub fn low_32(word: u64) -> u32
     ensures { result ≡ Word.low_32 word }
 {
@@ -10,7 +10,7 @@ pub fn low_32(word: u64) -> u32
 }
 
 /// A word read as two's complement.
-#[inline]
+#[inline(always)]
 pub fn signed(word: u64) -> i64
     ensures { result ≡ Word.signed word }
 {
@@ -18,7 +18,7 @@ pub fn signed(word: u64) -> i64
 }
 
 /// The low 32 bits of a word read as two's complement.
-#[inline]
+#[inline(always)]
 pub fn signed_32(word: u64) -> i32
     ensures { result ≡ Word.signed_32 word }
 {
@@ -26,7 +26,7 @@ pub fn signed_32(word: u64) -> i32
 }
 
 /// The word whose signed reading is a number.
-#[inline]
+#[inline(always)]
 pub fn word_of(value: i64) -> u64
     ensures { result ≡ Word.word_of value }
 {
@@ -34,7 +34,7 @@ pub fn word_of(value: i64) -> u64
 }
 
 /// The low 32 bits of a word, sign-extended to a word.
-#[inline]
+#[inline(always)]
 pub fn sx32(word: u64) -> u64
     ensures { result ≡ Word.sx32 word }
 {

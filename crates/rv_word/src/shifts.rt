@@ -4,7 +4,7 @@ ghost use Rattle.std.specs.Prelude.{◌≡◌};
 use crate::readings::{low_32, signed, signed_32, sx32, word_of};
 
 /// a shifted left by the low 6 bits of n (SLL).
-#[inline]
+#[inline(always)]
 pub fn shift_left(a: u64, n: u64) -> u64
     ensures { result ≡ Arithmetic.shift_left a n }
 {
@@ -12,7 +12,7 @@ pub fn shift_left(a: u64, n: u64) -> u64
 }
 
 /// a shifted right by the low 6 bits of n (SRL).
-#[inline]
+#[inline(always)]
 pub fn shift_right(a: u64, n: u64) -> u64
     ensures { result ≡ Arithmetic.shift_right a n }
 {
@@ -20,7 +20,7 @@ pub fn shift_right(a: u64, n: u64) -> u64
 }
 
 /// a shifted right by the low 6 bits of n, with copies of its sign from above (SRA).
-#[inline]
+#[inline(always)]
 pub fn shift_right_signed(a: u64, n: u64) -> u64
     ensures { result ≡ Arithmetic.shift_right_signed a n }
 {
@@ -28,7 +28,7 @@ pub fn shift_right_signed(a: u64, n: u64) -> u64
 }
 
 /// The low 32 bits of a shifted left by the low 5 bits of n, sign-extended (SLLW).
-#[inline]
+#[inline(always)]
 pub fn shift_left_32(a: u64, n: u64) -> u64
     ensures { result ≡ Arithmetic.shift_left_32 a n }
 {
@@ -36,7 +36,7 @@ pub fn shift_left_32(a: u64, n: u64) -> u64
 }
 
 /// The low 32 bits of a shifted right by the low 5 bits of n, sign-extended (SRLW).
-#[inline]
+#[inline(always)]
 pub fn shift_right_32(a: u64, n: u64) -> u64
     ensures { result ≡ Arithmetic.shift_right_32 a n }
 {
@@ -44,7 +44,7 @@ pub fn shift_right_32(a: u64, n: u64) -> u64
 }
 
 /// The low 32 bits of a shifted right by the low 5 bits of n, with copies of their sign (SRAW).
-#[inline]
+#[inline(always)]
 pub fn shift_right_signed_32(a: u64, n: u64) -> u64
     ensures { result ≡ Arithmetic.shift_right_signed_32 a n }
 {

@@ -2,7 +2,7 @@ ghost use Rattle.guest_words.specs.Arithmetic;
 ghost use Rattle.std.specs.Prelude.{◌≡◌};
 
 /// a + b modulo 2^64.
-#[inline]
+#[inline(always)]
 pub fn sum(a: u64, b: u64) -> u64
     ensures { result ≡ Arithmetic.sum a b }
 {
@@ -10,7 +10,7 @@ pub fn sum(a: u64, b: u64) -> u64
 }
 
 /// a - b modulo 2^64.
-#[inline]
+#[inline(always)]
 pub fn difference(a: u64, b: u64) -> u64
     ensures { result ≡ Arithmetic.difference a b }
 {
