@@ -14,7 +14,8 @@ use Rattle.guest_pages.specs.Buffers.{IsPageBuffer, end_of, holds, cell_in, cell
 use Rattle.guest_pages.specs.Paged.{rights_of, page_at, with_run, with_page}
 use Rattle.guest_pages.specs.Stretch.{IsFree}
 use Rattle.guest_pages.proofs.Lookup.{get-cells_of, get-holder}
-use Rattle.guest_pages.proofs.Spaces.{is_in, get-without, get-with_run}
+use Rattle.guest_words.proofs.SpaceLaws.{is_within, get-without}
+use Rattle.guest_pages.proofs.Spaces.{get-with_run}
 use Rattle.guest_pages.proofs.Splicing.{IsSplit, AreWithin, split_at, split_free, split_page, split_past, none_within, one_within, get-one, none_in, sorted-splice, get-splice}
 
 -- an inserted element as a list of one
@@ -36,11 +37,11 @@ cells_of-insert xs n r sorted before free is =
     same_map nat_cmp_total nat_cmp-IsAntisymmetric _ _ (λ a.
     ap (λ bs. get (cells_of bs) a) (sym (inserted xs n r))
     ∙ get-splice xs (r ∷ []) r.from (r.from + 4096) n n split (split_free xs r.from n 4096 sorted split free) (omega arith) (one_within r is) a
-    ∙ by a (is_in r.from 4096 a) refl
-    ∙ ap (λ w. if is_in r.from w a then Some (record { byte = slice_index r.bytes.items (a - r.from); rights = r.rights }) else get (cells_of xs) a) (sym is.whole)
+    ∙ by a (is_within r.from 4096 a) refl
+    ∙ ap (λ w. if is_within r.from w a then Some (record { byte = slice_index r.bytes.items (a - r.from); rights = r.rights }) else get (cells_of xs) a) (sym is.whole)
     ∙ sym (get-with_run r.bytes.items (cells_of xs) r.from r.rights a))
   where
-    by : (a : ℕ) (t : Bool) → is_in r.from 4096 a ≡ t → (if t then get (cells_of (r ∷ [])) a else get (cells_of xs) a) ≡ (if t then Some (record { byte = slice_index r.bytes.items (a - r.from); rights = r.rights }) else get (cells_of xs) a)
+    by : (a : ℕ) (t : Bool) → is_within r.from 4096 a ≡ t → (if t then get (cells_of (r ∷ [])) a else get (cells_of xs) a) ≡ (if t then Some (record { byte = slice_index r.bytes.items (a - r.from); rights = r.rights }) else get (cells_of xs) a)
     by a true inside = get-one r a is (grind (arith, nat_tests, inside)) (grind (arith, nat_tests, inside))
     by a false out = refl
 
@@ -73,31 +74,31 @@ cells_of-cut xs f g i j size sorted first last ordered ends =
     ∙ by a ends (leb_tells f a) (leb_tells g a)
     ∙ sym (get-without (cells_of xs) f size a))
   where
-    inside : (a : ℕ) → f ≤ a → a < g → g ≤ f + size → (if nat_le f a && nat_lt a g then get (cells_of []) a else get (cells_of xs) a) ≡ (if is_in f size a then None else get (cells_of xs) a)
+    inside : (a : ℕ) → f ≤ a → a < g → g ≤ f + size → (if nat_le f a && nat_lt a g then get (cells_of []) a else get (cells_of xs) a) ≡ (if is_within f size a then None else get (cells_of xs) a)
     inside a l h upto =
         let t : (nat_le f a && nat_lt a g) ≡ true = grind (arith, nat_tests) in
-        let u : is_in f size a ≡ true = grind (arith, nat_tests) in
+        let u : is_within f size a ≡ true = grind (arith, nat_tests) in
         ap (λ t. if t then get (cells_of []) a else get (cells_of xs) a) t ∙ get-nil a ∙ sym (ap (λ t. if t then None else get (cells_of xs) a) u)
 
     by : (a : ℕ) → (g ≡ f + size) ⊎ ((2 ^ 64 ≤ g + 1) × (g ≤ f + size)) → ((nat_le f a ≡ true) × (f ≤ a)) ⊎ ((nat_le f a ≡ false) × (a < f)) → ((nat_le g a ≡ true) × (g ≤ a)) ⊎ ((nat_le g a ≡ false) × (a < g))
-        → (if nat_le f a && nat_lt a g then get (cells_of []) a else get (cells_of xs) a) ≡ (if is_in f size a then None else get (cells_of xs) a)
+        → (if nat_le f a && nat_lt a g then get (cells_of []) a else get (cells_of xs) a) ≡ (if is_within f size a then None else get (cells_of xs) a)
     by a (inl e) (inl low) (inr high) = inside a low.1 high.1 (omega (arith, e))
     by a (inr e) (inl low) (inr high) = inside a low.1 high.1 e.1
     by a e (inr low) x =
         let l = low.1 in
         let t : (nat_le f a && nat_lt a g) ≡ false = grind (arith, nat_tests) in
-        let u : is_in f size a ≡ false = grind (arith, nat_tests) in
+        let u : is_within f size a ≡ false = grind (arith, nat_tests) in
         ap (λ t. if t then get (cells_of []) a else get (cells_of xs) a) t ∙ sym (ap (λ t. if t then None else get (cells_of xs) a) u)
     by a (inl e) (inl low) (inl high) =
         let h = high.1 in
         let t : (nat_le f a && nat_lt a g) ≡ false = grind (arith, nat_tests) in
-        let u : is_in f size a ≡ false = grind (arith, nat_tests, e) in
+        let u : is_within f size a ≡ false = grind (arith, nat_tests, e) in
         ap (λ t. if t then get (cells_of []) a else get (cells_of xs) a) t ∙ sym (ap (λ t. if t then None else get (cells_of xs) a) u)
     by a (inr e) (inl low) (inl high) =
         let h = high.1 in
         let t : (nat_le f a && nat_lt a g) ≡ false = grind (arith, nat_tests) in
         let none : get (cells_of xs) a ≡ None = past_end xs g j a sorted last e.0 h in
-        ap (λ t. if t then get (cells_of []) a else get (cells_of xs) a) t ∙ none ∙ sym (either (is_in f size a) (get (cells_of xs) a) none)
+        ap (λ t. if t then get (cells_of []) a else get (cells_of xs) a) t ∙ none ∙ sym (either (is_within f size a) (get (cells_of xs) a) none)
       where
         either : (t : Bool) (o : Option Cell) → o ≡ None → (if t then None else o) ≡ None
         either true o none = refl

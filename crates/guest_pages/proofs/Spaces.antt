@@ -1,63 +1,23 @@
 -- What memory has at an address after bytes come or go.
 use Rattle.std.proofs.Common.{◌≡◌, ℕ, zero, suc, ◌+◌, ◌-◌, ◌<◌, ◌≤◌, ◌&&◌, nat_le, nat_lt, not, subst, Bool, true, false, cond, List, [], ◌∷◌, length, get_or, Option, Some, None, refl, sym, ap, ◌∙◌, arith, inl, inr, if◌then◌else◌, slice_index}
 use Rattle.std.specs.Cmp.{nat_cmp_total}
-use Rattle.std.specs.FinMap.{get, get-insert, get-retain_keys, nat_cmp-IsAntisymmetric}
+use Rattle.std.specs.FinMap.{get, get-insert}
 use Rattle.std.proofs.lemmas.Bool.Decides.{nat_tests}
 use Rattle.guest_words.specs.declared.image.Rights.{Rights}
 use Rattle.guest_words.specs.declared.image.Cell.{Cell}
-use Rattle.guest_words.specs.Space.{Space, zero_cell, with_zeros, without}
+use Rattle.guest_words.specs.Space.{Space}
+use Rattle.guest_words.proofs.SpaceLaws.{is_within}
 use Rattle.guest_words.proofs.StartMemory.{addresses_tell}
 use Rattle.guest_pages.specs.Paged.{Paged, with_run}
 
--- an address is one of so many from another on
-abbrev pub is_in : ℕ → ℕ → ℕ → Bool
-is_in from size q = nat_le from q && nat_lt q (from + size)
-
-pub in_yes : (from size q : ℕ) → from ≤ q → q < from + size → is_in from size q ≡ true
+pub in_yes : (from size q : ℕ) → from ≤ q → q < from + size → is_within from size q ≡ true
 in_yes from size q low high = grind (arith, nat_tests)
 
-pub in_before : (from size q : ℕ) → q < from → is_in from size q ≡ false
-in_before from size q low = grind (arith, nat_tests)
-
-pub in_past : (from size q : ℕ) → from + size ≤ q → is_in from size q ≡ false
-in_past from size q high = grind (arith, nat_tests)
-
-pub get-with_zeros : (size : ℕ) (m : Space) (from : ℕ) (rights : Rights) (q : ℕ)
-    → get (with_zeros m from size rights) q ≡ (if is_in from size q then Some (zero_cell rights) else get m q)
-unfolding with_zeros
-get-with_zeros zero m from rights q =
-    let none : is_in from 0 q ≡ false = grind (arith, nat_tests) in
-    sym (ap (λ t. if t then Some (zero_cell rights) else get m q) none)
-get-with_zeros (suc size) m from rights q =
-    get-insert nat_cmp_total (with_zeros m (from + 1) size rights) from (zero_cell rights) q
-    ∙ elim (addresses_tell q from) [
-      | inl s ↦
-          let same = s.1 in
-          ap (λ t. cond t (Some (zero_cell rights)) (get (with_zeros m (from + 1) size rights) q)) s.0
-          ∙ sym (ap (λ t. if t then Some (zero_cell rights) else get m q) (in_yes from (suc size) q (omega arith) (omega arith)))
-      | inr s ↦
-          let other = s.1 in
-          let same : is_in (from + 1) size q ≡ is_in from (suc size) q = grind (arith, nat_tests) in
-          ap (λ t. cond t (Some (zero_cell rights)) (get (with_zeros m (from + 1) size rights) q)) s.0
-          ∙ get-with_zeros size m (from + 1) rights q
-          ∙ ap (λ t. if t then Some (zero_cell rights) else get m q) same
-    ]
-
-turned : {X : Type 0} (b : Bool) (x y : X) → cond (not b) x y ≡ (if b then y else x)
-turned true x y = refl
-turned false x y = refl
-
-pub get-without : (m : Space) (from size q : ℕ) → get (without m from size) q ≡ (if is_in from size q then None else get m q)
-unfolding without
-get-without m from size q =
-    get-retain_keys m (λ a. not (is_in from size a)) q (λ a tied. ap (λ x. not (is_in from size x)) (sym (nat_cmp-IsAntisymmetric q a tied)))
-    ∙ turned (is_in from size q) (get m q) None
-
 pub get-with_run : (bytes : List ℕ) (m : Space) (from : ℕ) (rights : Rights) (q : ℕ)
-    → get (with_run m from rights bytes) q ≡ (if is_in from (length bytes) q then Some (record { byte = slice_index bytes (q - from); rights = rights }) else get m q)
+    → get (with_run m from rights bytes) q ≡ (if is_within from (length bytes) q then Some (record { byte = slice_index bytes (q - from); rights = rights }) else get m q)
 unfolding with_run
 get-with_run [] m from rights q =
-    let none : is_in from 0 q ≡ false = grind (arith, nat_tests) in
+    let none : is_within from 0 q ≡ false = grind (arith, nat_tests) in
     sym (ap (λ t. if t then Some (record { byte = slice_index [] (q - from); rights = rights }) else get m q) none)
 get-with_run (b ∷ bytes) m from rights q =
     get-insert nat_cmp_total (with_run m (from + 1) rights bytes) from (record { byte = b; rights = rights }) q
@@ -70,14 +30,14 @@ get-with_run (b ∷ bytes) m from rights q =
           ∙ ap (λ i. Some (record { byte = slice_index (b ∷ bytes) i; rights = rights })) first)
       | inr s ↦
           let other = s.1 in
-          let same : is_in (from + 1) (length bytes) q ≡ is_in from (suc (length bytes)) q = grind (arith, nat_tests) in
+          let same : is_within (from + 1) (length bytes) q ≡ is_within from (suc (length bytes)) q = grind (arith, nat_tests) in
           ap (λ t. cond t (Some (record { byte = b; rights = rights })) (get (with_run m (from + 1) rights bytes) q)) s.0
           ∙ get-with_run bytes m (from + 1) rights q
           ∙ ap (λ t. if t then Some (record { byte = slice_index bytes (q - (from + 1)); rights = rights }) else get m q) same
-          ∙ shifted (is_in from (suc (length bytes)) q) refl other
+          ∙ shifted (is_within from (suc (length bytes)) q) refl other
     ]
   where
-    shifted : (t : Bool) → is_in from (suc (length bytes)) q ≡ t → (q ≡ from → ⊥)
+    shifted : (t : Bool) → is_within from (suc (length bytes)) q ≡ t → (q ≡ from → ⊥)
         → (if t then Some (record { byte = slice_index bytes (q - (from + 1)); rights = rights }) else get m q) ≡ (if t then Some (record { byte = slice_index (b ∷ bytes) (q - from); rights = rights }) else get m q)
     shifted true e other =
         let less : from ≤ q = grind (arith, nat_tests) in

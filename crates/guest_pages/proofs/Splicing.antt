@@ -15,7 +15,7 @@ use Rattle.guest_pages.specs.Buffers.{IsPageBuffer, end_of, holds, cell_in, cell
 use Rattle.guest_pages.specs.Paged.{with_run}
 use Rattle.guest_pages.specs.Stretch.{IsFree}
 use Rattle.guest_pages.proofs.Lookup.{holds_no, find_fails, get-cells_of, get-holder, starts_ascend, ends_before}
-use Rattle.guest_pages.proofs.Spaces.{is_in, in_yes, in_before, in_past, get-with_zeros, get-without, get-with_run}
+use Rattle.guest_words.proofs.SpaceLaws.{is_within, get-with_zeros}
 
 -- so many buffers end at or before an address, and all others begin at or after it
 pub record IsSplit (buffers : List PageBuffer) (q n : ℕ) : Type 0 where
@@ -380,10 +380,10 @@ cells_of-add xs ys q n count rights sorted before free zeros aligned below =
     let split = split_at xs q n sorted before (inl aligned) in
     same_map nat_cmp_total nat_cmp-IsAntisymmetric _ _ (λ a.
     get-splice xs ys q (q + count * 4096) n n split (split_free xs q n (count * 4096) sorted split free) (omega arith) (zeros_within q count rights ys zeros aligned below) a
-    ∙ by a (is_in q (count * 4096) a) refl
-    ∙ sym (get-with_zeros (count * 4096) (cells_of xs) q rights a))
+    ∙ by a (is_within q (count * 4096) a) refl
+    ∙ sym (get-with_zeros (cells_of xs) q (count * 4096) rights a))
   where
-    by : (a : ℕ) (t : Bool) → is_in q (count * 4096) a ≡ t → (if t then get (cells_of ys) a else get (cells_of xs) a) ≡ (if t then Some (zero_cell rights) else get (cells_of xs) a)
+    by : (a : ℕ) (t : Bool) → is_within q (count * 4096) a ≡ t → (if t then get (cells_of ys) a else get (cells_of xs) a) ≡ (if t then Some (zero_cell rights) else get (cells_of xs) a)
     by a true inside = get-zeros q count rights ys zeros aligned below a (grind (arith, nat_tests, inside)) (grind (arith, nat_tests, inside))
     by a false out = refl
 

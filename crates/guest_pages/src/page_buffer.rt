@@ -1,10 +1,11 @@
 ghost use Rattle.std.specs.Prelude.{◌≡◌, ◌+◌, ◌-◌, ◌<◌, ◌≤◌, IfSome, IfNone, length, find, None, true};
 ghost use Rattle.guest_pages.specs.Buffers.{cells_of, end_of, holds, AreSorted};
 ghost use Rattle.guest_pages.specs.Buffers.{IsCountBefore, IsHolder, IsPageBuffer};
+ghost use Rattle.guest_words.specs.Widths.{bytes_in};
 ghost use Rattle.guest_pages.specs.Stretch.{IsNextPage, HasNoPageFrom};
 
-use guest_words::Rights;
 use guest_words::limits::PAGE;
+use guest_words::{Rights, Width};
 
 /// A page.
 #[derive(Drop)]
@@ -65,11 +66,10 @@ pub fn next_page(buffers: &[PageBuffer], address: u64) -> Option<u64>
 
 /// Whether a page has so many bytes from an address on, by one comparison.
 #[inline(always)]
-pub fn has_all(buffer: &PageBuffer, address: u64, width: u8) -> bool
+pub fn has_all(buffer: &PageBuffer, address: u64, width: Width) -> bool
     requires page { IsPageBuffer buffer.now }
-    requires most { width ≤ 8 }
     ensures low { result ≡ true → buffer.now.from ≤ address }
-    ensures high { result ≡ true → address + width ≤ end_of buffer.now }
+    ensures high { result ≡ true → address + bytes_in width ≤ end_of buffer.now }
 {
-    address.wrapping_sub(buffer.from) <= PAGE - u64::from(width)
+    address.wrapping_sub(buffer.from) <= PAGE - width.bytes()
 }
