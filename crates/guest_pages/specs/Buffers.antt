@@ -78,7 +78,8 @@ pub record AreZeros (from count : ℕ) (rights : Rights) (buffers : List PageBuf
   pub long : length buffers ≡ count
   pub starts :
       (k : ℕ) (d : PageBuffer) → k < count → (slice_index_or buffers k d).from ≡ from + k * PAGE
-  pub rights_of : (k : ℕ) (d : PageBuffer) → k < count → (slice_index_or buffers k d).rights ≡ rights
+  pub rights_of :
+      (k : ℕ) (d : PageBuffer) → k < count → (slice_index_or buffers k d).rights ≡ rights
   pub zeros :
       (k : ℕ) (d : PageBuffer)
       → k < count
