@@ -64,9 +64,9 @@ step_at xs page i sorted count = by (leb_tells (length xs) i)
         let aligned = (sorted.each i d below).aligned in
         let next : 4096 * (page + 1) ≤ (get_or xs i d).from = omega (arith, low, other, aligned) in
         let past : (k : ℕ) (e : PageBuffer) → i ≤ k → k < length xs → 4096 * (page + 1) ≤ (get_or xs k e).from = λ k e later within.
-          let up = starts_ascend xs i k e sorted later within in
-          let is = ap (λ (b : PageBuffer). b.from) (get_or_default xs i e d below) in
-          omega (arith, up, is, next) in
+        let up = starts_ascend xs i k e sorted later within in
+        let is = ap (λ (b : PageBuffer). b.from) (get_or_default xs i e d below) in
+        omega (arith, up, is, next) in
         lacks (missing xs i page sorted ends (λ k e later within. let p = past k e later within in omega (arith, p))) (record {
           within = count.within;
           before = λ k e less. let b = count.before k e less in omega (arith, b);

@@ -21,7 +21,7 @@ with_bytes-append (x ∷ xs) ys m a =
     with_bytes-append xs ys (with_byte m a x) (a + 1) ∙ ap (λ q. with_bytes (with_bytes (with_byte m a x) (a + 1) xs) q ys) there
 
 -- where an address is in no page, the others of its page aren't either
-page_lacks : (buffers : List PageBuffer) (q a : ℕ) → AreSorted buffers → find (holds q) buffers ≡ None → a / 4096 ≡ q / 4096 → get (cells_of buffers) a ≡ None
+pub page_lacks : (buffers : List PageBuffer) (q a : ℕ) → AreSorted buffers → find (holds q) buffers ≡ None → a / 4096 ≡ q / 4096 → get (cells_of buffers) a ≡ None
 page_lacks buffers q a sorted none same =
     get-cells_of buffers a
     ∙ ap (cell_in a) (find_fails (holds a) buffers (λ k d below. holds_no a (get_or buffers k d) (λ l h.

@@ -12,8 +12,9 @@ use Rattle.guest_words.specs.Space.{Space, byte_of, bytes_at, without}
 use Rattle.guest_pages.specs.declared.page_buffer.PageBuffer.{PageBuffer}
 use Rattle.guest_pages.specs.Buffers.{IsPageBuffer, end_of, holds, cell_in, cells_of, AreSorted, IsCountBefore, IsHolder}
 use Rattle.guest_pages.specs.Paged.{rights_of, page_at, with_run, with_page}
-use Rattle.guest_pages.specs.Stretch.{IsFree}
-use Rattle.guest_pages.proofs.Lookup.{get-cells_of, get-holder}
+use Rattle.guest_pages.specs.Stretch.{IsFree, IsPageOf}
+use Rattle.guest_pages.proofs.Filling.{page_lacks}
+use Rattle.guest_pages.proofs.Lookup.{get-cells_of, get-holder, page_there}
 use Rattle.guest_words.proofs.SpaceLaws.{is_within, get-without}
 use Rattle.guest_pages.proofs.Spaces.{get-with_run}
 use Rattle.guest_pages.proofs.Splicing.{IsSplit, AreWithin, split_at, split_free, split_page, split_past, none_within, one_within, get-one, none_in, sorted-splice, get-splice}
@@ -142,6 +143,17 @@ page_in xs i r sorted below is =
     ∙ sym (get_or_default (bytes_at (cells_of xs) r.from 4096) k d 0 (omega (arith, long, small)) ∙ get_or-bytes_at (cells_of xs) r.from 4096 k small ∙ ap byte_of (page_byte xs i r k sorted below is small))) in
     λ t. record { from = r.from; rights = rights t; bytes = bytes t }
 
+pub page_of_buffer : (xs : List PageBuffer) (i : ℕ) (r : PageBuffer) → AreSorted xs → i < length xs → r ≡ get_or xs i r
+    → IsPageOf (cells_of xs) (record { from = r.from; rights = r.rights; bytes = r.bytes.items })
+page_of_buffer xs i r sorted below is = record {
+  whole = (subst IsPageBuffer (sym is) (sorted.each i r below)).whole;
+  cells = λ k small. page_byte xs i r k sorted below is small;
+}
+
+-- where a page's first byte is missing, all of it is
+pub page_free : (xs : List PageBuffer) (q : ℕ) → AreSorted xs → find (holds q) xs ≡ None → q % 4096 ≡ 0 → IsFree (cells_of xs) q 4096
+page_free xs q sorted none aligned a low high = page_lacks xs q a sorted none (omega (arith, low, high, aligned))
+
 -- the buffer that has a page's address begins there
 pub holder_begins : (xs : List PageBuffer) (i q : ℕ) (r : PageBuffer) → AreSorted xs → IsHolder xs q i → r ≡ get_or xs i r → q % 4096 ≡ 0 → r.from ≡ q
 holder_begins xs i q r sorted holder is aligned =
@@ -207,3 +219,7 @@ cut_at xs f count bytes g i j sorted first last aligned small product sum =
         | inr p ↦ let past = p.1 in inr (omega (arith, past, product, sum), omega (arith, past, product, sum))
       ];
     }
+
+pub held_there : (xs : List PageBuffer) (i q : ℕ) → AreSorted xs → IsHolder xs q i → IsSome (get (cells_of xs) q)
+held_there [] i q sorted holder = absurd (let w = holder.within in omega (arith, w))
+held_there (x ∷ xs) i q sorted holder = page_there (x ∷ xs) i x q sorted holder.within (holder.from x) (holder.upto x)

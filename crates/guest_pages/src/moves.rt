@@ -2,7 +2,7 @@ ghost use Rattle.std.specs.Prelude.{◌≡◌, ◌+◌, ◌*◌, ◌%◌, ◌-�
 ghost use Rattle.std.specs.FinMap as map;
 ghost use Rattle.guest_words.specs.Space.{without};
 ghost use Rattle.guest_pages.specs.Paged.{page_at, with_page};
-ghost use Rattle.guest_pages.specs.Stretch.{IsFree};
+ghost use Rattle.guest_pages.specs.Stretch.{IsFree, IsPageOf};
 
 use crate::page_buffer::{PageBuffer, count_before, index_of};
 use crate::pages::Pages;
@@ -16,6 +16,7 @@ impl Pages {
         requires aligned { from % PAGE ≡ 0 }
         requires there { IsSome (map.get self.old.space from) }
         ensures page { result ≡ page_at self.old.space from }
+        ensures whole { IsPageOf self.old.space result }
         ensures gone { self.new ≡ record {
           space = without self.old.space from PAGE;
           spare = self.old.spare + 1;

@@ -19,9 +19,9 @@ returns-then-count-from c = record {
       let ahead = held.ahead i d (omega arith) within in
       lowest_found xs c.args.count c.loop-index.place i c.requires.sorted held
       (λ k e later below.
-        let up = starts_ascend xs i k e c.requires.sorted later below in
-        let same = ap (λ (b : PageBuffer). b.from) (get_or_default xs i e d within) in
-        omega (arith, up, same, ahead))
+      let up = starts_ascend xs i k e c.requires.sorted later below in
+      let same = ap (λ (b : PageBuffer). b.from) (get_or_default xs i e d within) in
+      omega (arith, up, same, ahead))
       (omega (arith, early, ahead));
 }
 

@@ -2,12 +2,14 @@ use Rattle.std.proofs.Common.{◌≡◌, ◌∙◌, ◌+◌, ◌-◌, ◌<◌, a
 use Rattle.std.specs.FinMap.{get}
 use Rattle.std.specs.List.{find, remove}
 use Rattle.guest_words.specs.declared.image.Cell.{Cell}
+use Rattle.guest_words.specs.declared.image.Page.{Page}
 use Rattle.guest_words.specs.Space.{Space, without}
+use Rattle.guest_pages.specs.Stretch.{IsPageOf}
 use Rattle.guest_pages.specs.declared.page_buffer.PageBuffer.{PageBuffer}
 use Rattle.guest_pages.specs.Buffers.{AreSorted, IsHolder, cells_of, cell_in, holds}
 use Rattle.guest_pages.specs.Paged.{Paged, page_at}
 use Rattle.guest_pages.proofs.Lookup.{get-cells_of}
-use Rattle.guest_pages.proofs.Moving.{page_in, holder_begins, sorted-remove, cells_of-remove}
+use Rattle.guest_pages.proofs.Moving.{page_in, page_of_buffer, holder_begins, sorted-remove, cells_of-remove}
 use Rattle.guest_pages.proofs.Storing.{holder_of}
 use Rattle.guest_pages.proofs.pages.Pages.take_page.Goals as goal
 
@@ -56,3 +58,13 @@ returns-clause-gone c =
     ∙ cells_of-remove buffers c.in-Some.index r c.self.invariant.0 holder.within c.remove-buffer.ensures.value
     ∙ ap (λ q. without (cells_of buffers) q 4096) begins)
     ∙ ap (λ (p : Paged). record { space = without p.space c.args.from 4096; spare = p.spare + 1 }) c.self.view_is
+
+pub returns-clause-whole : goal.returns-clause-whole
+returns-clause-whole c =
+    let buffers = c.self.inside.buffers.items in
+    let r = c.remove-buffer.result in
+    let holder = holder_of c.as_slice.result.now buffers c.args.from c.in-Some.index c.as_slice.ensures.value c.in-Some.ensures.found in
+    let P : Page → Type 0 = IsPageOf c.args.self.now.space in
+    subst P (sym c.into_page.ensures.value)
+    (subst (λ (p : Paged). IsPageOf p.space (record { from = r.from; rights = r.rights; bytes = r.bytes.items })) c.self.view_is
+    (page_of_buffer buffers c.in-Some.index r c.self.invariant.0 holder.within c.remove-buffer.ensures.value))
