@@ -26,7 +26,7 @@ can_return m page =
 
 -- memory without those of so many pages that are there
 abbrev pub dropped : Space → ℕ → ℕ → Space
-dropped m from count = if from % PAGE == 0 then without m from (count * PAGE) else m
+dropped m from count = if from % PAGE == 0 then without m from (PAGE * count) else m
 
 abbrev pub is_in_heap : AddressSpace → ℕ → Bool
 is_in_heap memory to = nat_le memory.low to && nat_le to (memory.low + HEAP_BYTES)

@@ -1,9 +1,10 @@
-ghost use Rattle.std.specs.Prelude.{◌≡◌, ◌+◌, ◌*◌, ◌%◌, ◌-◌, ◌<◌, ◌^◌, ◌&&◌, length, IsSome, IsTrue, IsFalse, OnOk, OnErr};
+ghost use Rattle.std.specs.Prelude.{◌≡◌, ◌+◌, ◌*◌, ◌%◌, ◌-◌, ◌<◌, ◌^◌, ◌&&◌, length};
+ghost use Rattle.std.specs.Prelude.{IfSome, IsFalse, IsSome, IsTrue, OnErr, OnOk};
 ghost use Rattle.std.specs.FinMap as map;
 ghost use Rattle.guest_words.specs.CallChanges.{free_place, mapped_pages};
 ghost use Rattle.guest_words.specs.Space.{with_zeros, without};
 ghost use Rattle.guest_pages.specs.Paged.{page_at, with_page};
-ghost use Rattle.guest_pages.specs.Stretch.{IsFree, IsPageOf};
+ghost use Rattle.guest_pages.specs.Stretch.{IsFree, IsPageOf, IsPlace};
 ghost use Rattle.guest_memory.specs.Text.{HasNoText, SameText};
 
 use crate::memory::Memory;
@@ -21,12 +22,12 @@ impl Memory {
         rights: Rights,
     ) -> Result<(), MemoryWant>
         requires aligned { from % PAGE ≡ 0 }
-        requires below { from + count * PAGE < 2 ^ 64 }
-        requires free { IsFree self.old.space from (count * PAGE) }
+        requires below { from + PAGE * count < 2 ^ 64 }
+        requires free { IsFree self.old.space from (PAGE * count) }
         requires readable { IsTrue rights.write → IsTrue rights.read }
         requires sealed { IsFalse (rights.write && rights.exec) }
         ensures ok { OnOk result (self.new ≡ record self.old {
-          space = with_zeros self.old.space from (count * PAGE) rights;
+          space = with_zeros self.old.space from (PAGE * count) rights;
         }) }
         ensures err { OnErr result (self.new ≡ self.old) }
         ensures text { IsFalse rights.exec → SameText self.old.space self.new.space }
@@ -73,9 +74,9 @@ impl Memory {
     pub fn unmap(&mut self, from: u64, count: u64)
         requires aligned { from % PAGE ≡ 0 }
         ensures value { self.new ≡ record self.old {
-          space = without self.old.space from (count * PAGE);
+          space = without self.old.space from (PAGE * count);
         } }
-        ensures text { HasNoText self.old.space from (count * PAGE)
+        ensures text { HasNoText self.old.space from (PAGE * count)
             → SameText self.old.space self.new.space }
     {
         self.pages.drop_pages(from, count);
@@ -92,6 +93,8 @@ impl Memory {
     /// exactly where they fit nowhere.
     pub fn free_place(&self, count: u64) -> Option<u64>
         ensures value { result ≡ free_place self.now.space count }
+        ensures place { IfSome result (IsPlace count) }
+        ensures free { IfSome result (λ place. IsFree self.now.space place (PAGE * count)) }
     {
         self.pages.free_place(count)
     }

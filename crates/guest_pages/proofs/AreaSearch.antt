@@ -10,6 +10,7 @@ use Rattle.guest_words.specs.CallChanges.{area, area_pages, has_page, mapped_pag
 use Rattle.guest_words.proofs.AreaLaws.{area_pages-is, free_place-at, free_place-none}
 use Rattle.guest_pages.specs.declared.page_buffer.PageBuffer.{PageBuffer}
 use Rattle.guest_pages.specs.Buffers.{IsPageBuffer, end_of, holds, cell_in, cells_of, AreSorted, IsCountBefore}
+use Rattle.guest_pages.specs.Stretch.{IsFree, IsPlace}
 use Rattle.guest_pages.proofs.Lookup.{get-cells_of, page_there, ends_before, between_buffers, starts_ascend}
 use Rattle.guest_pages.proofs.Moving.{counts_ascend}
 
@@ -238,6 +239,17 @@ lowest_found xs count place n sorted at after fits =
         let never = at.none 0x3f80000 (lit≤ tt) (omega (arith, past, whole)) in
         let t = sym (ap (λ c. are_free (cells_of xs) c 0x3f80000) none ∙ first) ∙ never in
         cc
+
+pub place_found : (xs : List PageBuffer) (count place n : ℕ) → IsLowest xs count place n → place + 4096 * count ≤ 0x3fc0000000 → IsPlace count place
+place_found xs count place n at fits = record { aligned = at.aligned; low = at.low; high = fits }
+
+pub free_found : (xs : List PageBuffer) (count place n : ℕ) → IsLowest xs count place n → ((k : ℕ) (d : PageBuffer) → n ≤ k → k < length xs → place + 4096 * count ≤ (get_or xs k d).from)
+    → IsFree (cells_of xs) place (4096 * count)
+free_found xs count place n at after q low high =
+    get-cells_of xs q
+    ∙ ap (cell_in q) (between_buffers xs n q
+    (λ k d less within. let p = at.passed k d less within in omega (arith, p, low))
+    (λ k d later within. let a = after k d later within in omega (arith, a, high)))
 
 -- no gap is
 pub lowest_none : (xs : List PageBuffer) (count place n : ℕ) → IsLowest xs count place n → (0x3fc0000000 - place) / 4096 < count → None ≡ free_place (cells_of xs) count

@@ -203,18 +203,18 @@ pub record Cut (xs : List PageBuffer) (f g i j size : ℕ) : Type 0 where
   pub ends : (g ≡ f + size) ⊎ ((2 ^ 64 ≤ g + 1) × (g ≤ f + size))
 
 pub cut_at : (xs : List PageBuffer) (f count bytes g i j : ℕ) → AreSorted xs → IsCountBefore xs f i → IsCountBefore xs g j → f % 4096 ≡ 0 → f < 2 ^ 64
-    → bytes ≡ min (count * 4096) 18446744073709551615 → g ≡ min (f + bytes) 18446744073709551615 → Cut xs f g i j (count * 4096)
+    → bytes ≡ min (4096 * count) 18446744073709551615 → g ≡ min (f + bytes) 18446744073709551615 → Cut xs f g i j (4096 * count)
 cut_at xs f count bytes g i j sorted first last aligned small product sum =
     let ordered : f ≤ g = omega (arith, small, product, sum) in
     record {
       first = split_at xs f i sorted first (inl aligned);
-      last = split_at xs g j sorted last (elim (leb_tells (f + count * 4096) 18446744073709551614) [
+      last = split_at xs g j sorted last (elim (leb_tells (f + 4096 * count) 18446744073709551614) [
         | inl p ↦ let fits = p.1 in inl (omega (arith, aligned, fits, product, sum))
         | inr p ↦ let past = p.1 in inr (omega (arith, past, product, sum))
       ]);
       ordered = ordered;
       ascend = counts_ascend xs f g i j first last ordered;
-      ends = elim (leb_tells (f + count * 4096) 18446744073709551614) [
+      ends = elim (leb_tells (f + 4096 * count) 18446744073709551614) [
         | inl p ↦ let fits = p.1 in inl (omega (arith, fits, product, sum))
         | inr p ↦ let past = p.1 in inr (omega (arith, past, product, sum), omega (arith, past, product, sum))
       ];

@@ -310,7 +310,7 @@ get-one r a is low high =
     get-holder (r ∷ []) 0 r a (one_within r is).sorted (lit< tt) low (omega (arith, high, w))
 
 -- pages of zeros, page after page
-zero_pages-IsPageBuffer : (from count : ℕ) (rights : Rights) (ys : List PageBuffer) → AreZeros from count rights ys → from % 4096 ≡ 0 → from + count * 4096 < 2 ^ 64
+zero_pages-IsPageBuffer : (from count : ℕ) (rights : Rights) (ys : List PageBuffer) → AreZeros from count rights ys → from % 4096 ≡ 0 → from + 4096 * count < 2 ^ 64
     → (k : ℕ) (d : PageBuffer) → k < length ys → IsPageBuffer (get_or ys k d)
 zero_pages-IsPageBuffer from count rights ys zeros aligned below k d within =
     let long = zeros.long in
@@ -323,8 +323,8 @@ zero_pages-IsPageBuffer from count rights ys zeros aligned below k d within =
       below = omega (arith, start, size, below, less);
     }
 
-pub zeros_within : (from count : ℕ) (rights : Rights) (ys : List PageBuffer) → AreZeros from count rights ys → from % 4096 ≡ 0 → from + count * 4096 < 2 ^ 64
-    → AreWithin from (from + count * 4096) ys
+pub zeros_within : (from count : ℕ) (rights : Rights) (ys : List PageBuffer) → AreZeros from count rights ys → from % 4096 ≡ 0 → from + 4096 * count < 2 ^ 64
+    → AreWithin from (from + 4096 * count) ys
 zeros_within from count rights ys zeros aligned below =
     let long = zeros.long in
     let each = zero_pages-IsPageBuffer from count rights ys zeros aligned below in
@@ -345,8 +345,8 @@ zeros_within from count rights ys zeros aligned below =
           omega (arith, whole, a, less);
     }
 
-zeros_there : (from count : ℕ) (rights : Rights) (ys : List PageBuffer) (d : PageBuffer) → AreZeros from count rights ys → from % 4096 ≡ 0 → from + count * 4096 < 2 ^ 64
-    → (a : ℕ) → from ≤ a → a < from + count * 4096 → get (cells_of ys) a ≡ Some (zero_cell rights)
+zeros_there : (from count : ℕ) (rights : Rights) (ys : List PageBuffer) (d : PageBuffer) → AreZeros from count rights ys → from % 4096 ≡ 0 → from + 4096 * count < 2 ^ 64
+    → (a : ℕ) → from ≤ a → a < from + 4096 * count → get (cells_of ys) a ≡ Some (zero_cell rights)
 zeros_there from count rights ys d zeros aligned below a low high =
     let k = (a - from) / 4096 in
     let long = zeros.long in
@@ -360,30 +360,30 @@ zeros_there from count rights ys d zeros aligned below a low high =
     ∙ ap (λ b. Some (record { byte = b; rights = (get_or ys k d).rights })) byte
     ∙ ap (λ r. Some (zero_cell r)) (zeros.rights_of k d less)
 
-pub get-zeros : (from count : ℕ) (rights : Rights) (ys : List PageBuffer) → AreZeros from count rights ys → from % 4096 ≡ 0 → from + count * 4096 < 2 ^ 64
-    → (a : ℕ) → from ≤ a → a < from + count * 4096 → get (cells_of ys) a ≡ Some (zero_cell rights)
+pub get-zeros : (from count : ℕ) (rights : Rights) (ys : List PageBuffer) → AreZeros from count rights ys → from % 4096 ≡ 0 → from + 4096 * count < 2 ^ 64
+    → (a : ℕ) → from ≤ a → a < from + 4096 * count → get (cells_of ys) a ≡ Some (zero_cell rights)
 get-zeros from count rights [] zeros aligned below a low high = absurd (let long = zeros.long in omega (arith, long, low, high))
 get-zeros from count rights (y ∷ ys) zeros aligned below a low high = zeros_there from count rights (y ∷ ys) y zeros aligned below a low high
 
 -- pages of zeros put where none is
-pub sorted-add : (xs ys : List PageBuffer) (q n count : ℕ) (rights : Rights) → AreSorted xs → IsCountBefore xs q n → IsFree (cells_of xs) q (count * 4096)
-    → AreZeros q count rights ys → q % 4096 ≡ 0 → q + count * 4096 < 2 ^ 64
+pub sorted-add : (xs ys : List PageBuffer) (q n count : ℕ) (rights : Rights) → AreSorted xs → IsCountBefore xs q n → IsFree (cells_of xs) q (4096 * count)
+    → AreZeros q count rights ys → q % 4096 ≡ 0 → q + 4096 * count < 2 ^ 64
     → AreSorted (take n xs ++ ys ++ drop n xs)
 sorted-add xs ys q n count rights sorted before free zeros aligned below =
     let split = split_at xs q n sorted before (inl aligned) in
-    sorted-splice xs ys q (q + count * 4096) n n sorted split (split_free xs q n (count * 4096) sorted split free) (omega arith) (zeros_within q count rights ys zeros aligned below)
+    sorted-splice xs ys q (q + 4096 * count) n n sorted split (split_free xs q n (4096 * count) sorted split free) (omega arith) (zeros_within q count rights ys zeros aligned below)
 
-pub cells_of-add : (xs ys : List PageBuffer) (q n count : ℕ) (rights : Rights) → AreSorted xs → IsCountBefore xs q n → IsFree (cells_of xs) q (count * 4096)
-    → AreZeros q count rights ys → q % 4096 ≡ 0 → q + count * 4096 < 2 ^ 64
-    → cells_of (take n xs ++ ys ++ drop n xs) ≡ with_zeros (cells_of xs) q (count * 4096) rights
+pub cells_of-add : (xs ys : List PageBuffer) (q n count : ℕ) (rights : Rights) → AreSorted xs → IsCountBefore xs q n → IsFree (cells_of xs) q (4096 * count)
+    → AreZeros q count rights ys → q % 4096 ≡ 0 → q + 4096 * count < 2 ^ 64
+    → cells_of (take n xs ++ ys ++ drop n xs) ≡ with_zeros (cells_of xs) q (4096 * count) rights
 cells_of-add xs ys q n count rights sorted before free zeros aligned below =
     let split = split_at xs q n sorted before (inl aligned) in
     same_map nat_cmp_total nat_cmp-IsAntisymmetric _ _ (λ a.
-    get-splice xs ys q (q + count * 4096) n n split (split_free xs q n (count * 4096) sorted split free) (omega arith) (zeros_within q count rights ys zeros aligned below) a
-    ∙ by a (is_within q (count * 4096) a) refl
-    ∙ sym (get-with_zeros (cells_of xs) q (count * 4096) rights a))
+    get-splice xs ys q (q + 4096 * count) n n split (split_free xs q n (4096 * count) sorted split free) (omega arith) (zeros_within q count rights ys zeros aligned below) a
+    ∙ by a (is_within q (4096 * count) a) refl
+    ∙ sym (get-with_zeros (cells_of xs) q (4096 * count) rights a))
   where
-    by : (a : ℕ) (t : Bool) → is_within q (count * 4096) a ≡ t → (if t then get (cells_of ys) a else get (cells_of xs) a) ≡ (if t then Some (zero_cell rights) else get (cells_of xs) a)
+    by : (a : ℕ) (t : Bool) → is_within q (4096 * count) a ≡ t → (if t then get (cells_of ys) a else get (cells_of xs) a) ≡ (if t then Some (zero_cell rights) else get (cells_of xs) a)
     by a true inside = get-zeros q count rights ys zeros aligned below a (grind (arith, nat_tests, inside)) (grind (arith, nat_tests, inside))
     by a false out = refl
 

@@ -1,6 +1,7 @@
-ghost use Rattle.std.specs.Prelude.{◌≡◌};
+ghost use Rattle.std.specs.Prelude.{◌≡◌, ◌*◌, IfSome};
 ghost use Rattle.guest_words.specs.CallChanges.{free_place, mapped_pages};
 ghost use Rattle.guest_pages.specs.Buffers.{cells_of, AreSorted};
+ghost use Rattle.guest_pages.specs.Stretch.{IsFree, IsPlace};
 
 use crate::page_buffer::{PageBuffer, count_before};
 use crate::pages::Pages;
@@ -21,6 +22,8 @@ impl Pages {
     /// exactly where they fit nowhere.
     pub fn free_place(&self, count: u64) -> Option<u64>
         ensures value { result ≡ free_place self.now.space count }
+        ensures place { IfSome result (IsPlace count) }
+        ensures free { IfSome result (λ place. IsFree self.now.space place (PAGE * count)) }
     {
         lowest_gap(self.buffers.as_slice(), count)
     }
@@ -30,6 +33,8 @@ impl Pages {
 fn lowest_gap(pages: &[PageBuffer], count: u64) -> Option<u64>
     requires sorted { AreSorted pages.now }
     ensures value { result ≡ free_place (cells_of pages.now) count }
+    ensures place { IfSome result (IsPlace count) }
+    ensures free { IfSome result (λ place. IsFree (cells_of pages.now) place (PAGE * count)) }
 {
     let first = count_before(pages, MAP_FROM);
     let last = count_before(pages, MAP_END);

@@ -55,10 +55,10 @@ impl Pages {
     pub fn drop_pages(&mut self, from: u64, count: u64)
         requires aligned { from % PAGE ≡ 0 }
         ensures value { self.new ≡ record self.old {
-          space = without self.old.space from (count * PAGE);
+          space = without self.old.space from (PAGE * count);
         } }
     {
-        let end = from.saturating_add(count.saturating_mul(PAGE));
+        let end = from.saturating_add(PAGE.saturating_mul(count));
         let pages = self.buffers.as_slice();
         let first = count_before(pages, from);
         let last = count_before(pages, end);

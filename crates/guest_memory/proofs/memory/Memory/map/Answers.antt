@@ -13,7 +13,7 @@ pub invariant_of-self : goal.invariant_of-self
 invariant_of-self c =
     let old = c.self.inside.pages in
     let new = c.add.new.self in
-    let size = c.args.count * 4096 in
+    let size = 4096 * c.args.count in
     let guarded = c.self.invariant.guarded in
     record {
       guarded = elim c.add.result as (λ r. OnOk r (new ≡ record old { space = with_zeros old.space c.args.from size c.args.rights }) → OnErr r (new ≡ old) → IsGuarded new.space) [
@@ -27,7 +27,7 @@ pub returns-clause-text : goal.returns-clause-text
 returns-clause-text c none =
     let old = c.self.inside.pages in
     let new = c.add.new.self in
-    let size = c.args.count * 4096 in
+    let size = 4096 * c.args.count in
     let P : AddressSpace → Type 0 = λ a. SameText a.space new.space in
     let free = subst (λ (a : AddressSpace). IsFree a.space c.args.from size) (sym c.self.view_is) c.requires.free in
     subst P c.self.view_is (elim c.add.result as (λ r. OnOk r (new ≡ record old { space = with_zeros old.space c.args.from size c.args.rights }) → OnErr r (new ≡ old) → SameText old.space new.space) [

@@ -6,6 +6,6 @@ use Rattle.guest_memory.proofs.restore.MemoryRestore.drop_pages.Goals as goal
 
 pub invariant_of-self : goal.invariant_of-self
 invariant_of-self c = record {
-  guarded = subst (λ (p : Paged). IsGuarded p.space) (sym c.drop_pages.ensures.value) (guarded-without c.self.inside.pages.space c.args.from (c.args.count * 4096) c.self.invariant.guarded);
+  guarded = subst (λ (p : Paged). IsGuarded p.space) (sym c.drop_pages.ensures.value) (guarded-without c.self.inside.pages.space c.args.from (4096 * c.args.count) c.self.invariant.guarded);
   heap = c.self.invariant.heap;
 }

@@ -51,7 +51,7 @@ returns c = record {
       let last = subst (P c.saturating_add-end.result j) all c.count_before-last.ensures.value in
       let cut = cut_at xs c.args.from c.args.count c.saturating_mul.result c.saturating_add-end.result i j c.self.invariant.0 first last c.requires.aligned c.ranges.from.fits c.saturating_mul.ensures c.saturating_add-end.ensures in
       let is = c.drop-drain.ensures.items ∙ c.drain.ensures.kept in
-      bytes_alone _ (cells_of xs) c.self.inside.spare c.args.self.now (λ m. without m c.args.from (c.args.count * 4096)) c.self.view_is
+      bytes_alone _ (cells_of xs) c.self.inside.spare c.args.self.now (λ m. without m c.args.from (4096 * c.args.count)) c.self.view_is
       (ap (λ (bs : List PageBuffer). cells_of bs) is
-      ∙ cells_of-cut xs c.args.from c.saturating_add-end.result i j (c.args.count * 4096) c.self.invariant.0 cut.first cut.last cut.ordered cut.ends);
+      ∙ cells_of-cut xs c.args.from c.saturating_add-end.result i j (4096 * c.args.count) c.self.invariant.0 cut.first cut.last cut.ordered cut.ends);
 }
