@@ -1,9 +1,10 @@
-ghost use Rattle.std.specs.Prelude.{◌≡◌, ◌+◌, ◌<◌, ◌≤◌, [], ◌∷◌, ◌++◌, length, IsOk, OnOk, OnErr};
-ghost use Rattle.undo_log.specs.Undo.{undone, note_of};
+ghost use Rattle.std.specs.Prelude.{◌≡◌, ◌+◌, ◌-◌, ◌<◌, ◌≤◌, [], ◌∷◌, ◌++◌, length};
+ghost use Rattle.std.specs.Prelude.{IsOk, OnOk, OnErr};
+ghost use Rattle.undo_log.specs.Undo.{undone, gone_in};
 
 use crate::note::Note;
 use crate::restore::Restore;
-use guest_words::MemoryWant;
+use guest_words::{MemoryWant, Page, Width};
 use std::alloc::Global;
 use std::marker::Model;
 
@@ -35,16 +36,16 @@ impl Log {
         }
     }
 
-    /// Notes the `width` low bytes of `old`, which stand at `address`. With room it isn't refused,
-    /// and uses one place.
-    pub fn note_bytes(&mut self, address: u64, width: u8, old: u64) -> Result<(), MemoryWant>
+    /// Notes the low bytes of `old`, which stand at an address. With room it isn't refused, and uses
+    /// one place.
+    pub fn note_bytes(&mut self, address: u64, width: Width, old: u64) -> Result<(), MemoryWant>
         ensures ok { OnOk result
-            (self.new.notes ≡ self.old.notes ++ note_of address width old ∷ []) }
+            (self.new.notes ≡ self.old.notes ++ Note.Bytes address width old ∷ []) }
         ensures err { OnErr result (self.new.notes ≡ self.old.notes) }
         ensures sure { 0 < self.old.spare → IsOk result }
         ensures room { 0 < self.old.spare → self.new.spare + 1 ≡ self.old.spare }
     {
-        let note = Note {
+        let note = Note::Bytes {
             address,
             width,
             old,
@@ -57,6 +58,39 @@ impl Log {
         Ok(())
     }
 
+    /// Notes that so many pages from an address on were made. Takes no memory.
+    pub fn note_made(&mut self, from: u64, count: u64)
+        requires room { 0 < self.old.spare }
+        ensures value { self.new ≡ record {
+          notes = self.old.notes ++ Note.Made from count ∷ [];
+          spare = self.old.spare - 1;
+        } }
+    {
+        self.notes.push_reserved(Note::Made { from, count });
+    }
+
+    /// Notes that a page is gone. Takes no memory.
+    pub fn note_gone(&mut self, page: Page)
+        requires room { 0 < self.old.spare }
+        ensures value { self.new ≡ record {
+          notes = self.old.notes ++ Note.Gone page ∷ [];
+          spare = self.old.spare - 1;
+        } }
+    {
+        self.notes.push_reserved(Note::Gone(page));
+    }
+
+    /// Notes that the break was at an address. Takes no memory.
+    pub fn note_break(&mut self, old: u64)
+        requires room { 0 < self.old.spare }
+        ensures value { self.new ≡ record {
+          notes = self.old.notes ++ Note.Break old ∷ [];
+          spare = self.old.spare - 1;
+        } }
+    {
+        self.notes.push_reserved(Note::Break(old));
+    }
+
     /// The number of notes.
     pub fn length(&self) -> u64
         ensures value { result ≡ length self.now.notes }
@@ -64,10 +98,12 @@ impl Log {
         self.notes.len() as u64
     }
 
-    /// Makes room for so many further notes.
+    /// Makes room for so many further notes. Room that is there stays, whatever the answer.
     pub fn reserve(&mut self, notes: u64) -> Result<(), MemoryWant>
         ensures same { self.new.notes ≡ self.old.notes }
         ensures ok { OnOk result (notes ≤ self.new.spare) }
+        ensures room { self.old.spare ≤ self.new.spare }
+        ensures err { OnErr result (self.new.spare ≡ self.old.spare) }
     {
         self.notes.reserve(notes as usize)?;
         Ok(())
@@ -88,11 +124,30 @@ impl Log {
 
     /// Puts all notes back, the newest first. Takes no memory.
     pub fn undo<U: Restore>(self, into: &mut U)
-        ensures value { into.new ≡ undone U.put self.notes into.old }
+        requires room { gone_in self.notes ≤ U.spare into.old }
+        ensures value { into.new ≡ undone U.put_back self.notes into.old }
     {
         let Log { mut notes } = self;
         while let Some(note) = notes.pop() {
-            into.put_bytes(note.address, note.width, note.old);
+            put_note(note, into);
         }
+    }
+}
+
+// Puts a note back.
+fn put_note<U: Restore>(note: Note, into: &mut U)
+    requires room { gone_in (note ∷ []) ≤ U.spare into.old }
+    ensures value { into.new ≡ U.put_back into.old note }
+    ensures room { U.spare into.old ≤ U.spare into.new + gone_in (note ∷ []) }
+{
+    match note {
+        Note::Bytes {
+            address,
+            width,
+            old,
+        } => into.put_bytes(address, width, old),
+        Note::Made { from, count } => into.drop_pages(from, count),
+        Note::Gone(page) => into.put_page(page),
+        Note::Break(old) => into.put_break(old),
     }
 }
