@@ -1,8 +1,8 @@
-ghost use Rattle.std.specs.Prelude.{◌≡◌, ◌<◌, false, map, length, slice_get, IfOk};
+ghost use Rattle.std.specs.Prelude.{◌≡◌, ◌<◌, true, false, map, length, slice_get, IfOk};
 ghost use Rattle.std.specs.List.{All};
 ghost use Rattle.std.specs.Borrow.{sem};
 ghost use Rattle.guest_words.specs.Harts.{touched, unreserved};
-ghost use Rattle.guest_atomics.specs.Free.{IsFree, IsFreeAt};
+ghost use Rattle.guest_atomics.specs.Free.{IsFree, IsFreeAt, IsFreeBut};
 ghost use Rattle.guest_atomics.specs.Lending.{LendsHart};
 
 use crate::reservation::{release, touch};
@@ -88,6 +88,15 @@ impl Harts {
             end_all(&mut self.items);
             self.others = false;
         }
+    }
+
+    /// Whether no hart but, maybe, the one in a slot has a reservation; false where that isn't known
+    /// at once.
+    #[inline]
+    pub fn is_free_but(&self, slot: usize) -> bool
+        ensures free { result ≡ true → IsFreeBut slot self.now }
+    {
+        self.lent == slot && !self.others
     }
 
     /// Equal harts.

@@ -1,23 +1,23 @@
 ghost use Rattle.std.specs.Prelude.{◌≡◌};
 ghost use Rattle.guest_words.specs.Harts.{reaches, touched, unreserved, holds};
 
-use guest_words::{Hart, Reserved};
+use guest_words::{Hart, Reserved, Width};
 
-/// Whether the hart's reservation is for just this address and this width in bytes. Takes no
+/// Whether the hart's reservation is for just this address and this width. Takes no
 /// memory.
-#[inline]
-pub fn holds(hart: &Hart, address: u64, width: u8) -> bool
+#[inline(always)]
+pub fn holds(hart: &Hart, address: u64, width: Width) -> bool
     ensures value { result ≡ holds hart.now address width }
 {
     match hart.reservation {
-        Some(reserved) => reserved.address == address && reserved.width == width,
+        Some(reserved) => reserved.address == address && reserved.width.bytes() == width.bytes(),
         None => false,
     }
 }
 
 /// Ends the hart's reservation if it has a byte among the `size` bytes from `address` on. Takes no
 /// memory.
-#[inline]
+#[inline(always)]
 pub fn touch(hart: &mut Hart, address: u64, size: u64)
     ensures value { hart.new ≡ touched address size hart.old }
 {
@@ -40,6 +40,7 @@ fn reaches(reserved: &Reserved, address: u64, size: u64) -> bool
     ensures value { result ≡ reaches reserved.now address size }
 {
     let end = u128::from(address) + u128::from(size);
-    let reserved_end = u128::from(reserved.address) + u128::from(reserved.width);
+    let width = reserved.width.bytes();
+    let reserved_end = u128::from(reserved.address) + u128::from(width);
     size > 0 && u128::from(reserved.address) < end && u128::from(address) < reserved_end
 }
