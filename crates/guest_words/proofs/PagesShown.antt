@@ -81,9 +81,11 @@ memory-where_it_stays s =
   where
     nothing : (n : ℕ) → n - n ≡ 0
     nothing n = omega arith
+
     none : (a : ℕ) (t : Bool) → nat_le (page_up s.brk) a ≡ t → is_within (page_up s.brk) 0 a ≡ false
     none a true low = grind (arith, nat_tests, low)
     none a false low = grind (arith, nat_tests, low)
+
     at : (a : ℕ) → get (without (with_zeros s.memory (page_up s.brk) 0 heap_rights) (page_up s.brk) 0) a ≡ get s.memory a
     at a =
         get-without (with_zeros s.memory (page_up s.brk) 0 heap_rights) (page_up s.brk) 0 a

@@ -4,6 +4,7 @@ use Rattle.std.specs.Fmt.{decimal}
 use Rattle.guest_words.specs.Names.{fault_name}
 use Rattle.guest_words.specs.declared.fault.Fault.{Fault as FaultAt}
 use Rattle.guest_words.specs.declared.point.PointRef.{PointRef}
+use Rattle.guest_words.specs.declared.point.Ret.{Ret}
 use Rattle.guest_words.specs.declared.ending.Ending.{Ending}
 use Rattle.guest_words.specs.declared.ending.Ending.TheVariants.{Exit, Fault, Stuck, Budget}
 use Rattle.rescue_report.specs.Numbers.{hexadecimal, code_text}
@@ -19,8 +20,8 @@ abbrev pub count_line : List ℕ → ℕ → List ℕ
 count_line name number = line (name ∷ decimal number ∷ [])
 
 -- the line of a rescued call: how many rescued calls it lies in, then what was taken back
-abbrev pub rescue_line : ℕ → ℕ → PointRef → FaultAt → ℕ → ℕ → List ℕ
-rescue_line depth hart point fault steps records = line
+abbrev pub rescue_line : ℕ → ℕ → PointRef → FaultAt → ℕ → ℕ → Ret → List ℕ
+rescue_line depth hart point fault steps records code = line
     (codes "rescue"
     ∷ codes "depth" ∷ decimal depth
     ∷ codes "hart" ∷ decimal hart
@@ -29,8 +30,12 @@ rescue_line depth hart point fault steps records = line
     ∷ codes "pc" ∷ hexadecimal fault.pc
     ∷ codes "steps" ∷ decimal steps
     ∷ codes "records" ∷ decimal records
-    ∷ codes "code" ∷ code_text point.ret
+    ∷ codes "code" ∷ code_text code
     ∷ [])
+
+-- the line of a point to which no rescue is left
+abbrev pub spent_line : ℕ → List ℕ
+spent_line entry = line (codes "spent" ∷ codes "point" ∷ hexadecimal entry ∷ [])
 
 -- the words of an ending
 abbrev pub ending_words : Ending → List (List ℕ)

@@ -1,9 +1,9 @@
 ghost use Rattle.std.specs.Prelude.{◌≡◌, ◌+◌, length, IfOk, OnOk};
-ghost use Rattle.plain_machine.specs.Counts.{steps_of, steps_of_all, records_of, records_of_all};
+ghost use Rattle.run_history.specs.Counts.{steps_of, steps_of_all, records_of, records_of_all};
 ghost use Rattle.rescue_report.specs.Rescues.{rescues_of, rescues_of_all};
 
 use guest_words::MemoryWant;
-use plain_machine::Entry;
+use run_history::Entry;
 
 /// What entries hold, all insides included. The sums have 128 bits, which no history that fits in
 /// memory can pass, so a sum beyond them is answered as want of memory.
@@ -49,7 +49,7 @@ impl Counts {
     }
 
     #[cycle(counts)]
-    #[tactic(auto, unfolding(plain_machine::specs::Counts::steps_of, plain_machine::specs::Counts::records_of, crate::specs::Rescues::rescues_of))]
+    #[tactic(auto, unfolding(run_history::specs::Counts::steps_of, run_history::specs::Counts::records_of, crate::specs::Rescues::rescues_of))]
     fn add(&mut self, entry: &Entry) -> Result<(), MemoryWant>
         ensures steps { OnOk result (self.new.steps ≡ self.old.steps + steps_of entry.now) }
         ensures records { OnOk result

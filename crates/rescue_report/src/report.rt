@@ -1,17 +1,24 @@
 ghost use Rattle.std.specs.Prelude.{◌≡◌, ◌++◌, IfOk, OnOk, string_bytes};
-ghost use Rattle.rescue_report.specs.Report.{report_of};
+ghost use Rattle.rescue_report.specs.Report.{report_of, spent_lines};
 ghost use Rattle.rescue_report.specs.Rescues.{rescue_lines, rescue_lines_of_all, rescued_lines};
 
 use crate::counts::{Counts, sum};
-use crate::lines::{count_line, end_line, rescue_line};
-use guest_words::{Bytes, Ending, Fault, MemoryWant, PointRef};
-use plain_machine::{Entry, History};
+use crate::lines::{count_line, end_line, rescue_line, spent_line};
+use guest_words::{Bytes, Ending, Fault, MemoryWant, Point, PointRef, Points};
+use run_history::{Entry, History};
 use std::alloc::Global;
 
-/// The report on a run with this history and this ending, in ASCII: its head, the sums of the
-/// history, a line for each rescued call, each followed by those of its inside, and the ending.
-pub fn report_text(alloc: Global, history: &History, ending: &Ending) -> Result<Bytes, MemoryWant>
-    ensures ok { IfOk result (λ text. text ≡ report_of history.now.entries ending.now) }
+/// The report on a run with this history, these points at its end and this ending, in ASCII: its
+/// head, the sums of the history, a line for each rescued call, each followed by those of its
+/// inside, a line for each point to which no rescue is left, and the ending.
+pub fn report_text(
+    alloc: Global,
+    history: &History,
+    points: &Points,
+    ending: &Ending,
+) -> Result<Bytes, MemoryWant>
+    ensures ok { IfOk result
+        (λ text. text ≡ report_of history.now.entries points.now ending.now) }
 {
     let entries = history.items();
     let counts = Counts::of(entries)?;
@@ -19,32 +26,52 @@ pub fn report_text(alloc: Global, history: &History, ending: &Ending) -> Result<
     text.push_str(count_line(alloc, "steps", counts.steps)?.as_str())?;
     text.push_str(count_line(alloc, "records", counts.records)?.as_str())?;
     text.push_str(count_line(alloc, "rescues", counts.rescues)?.as_str())?;
-    put_rescues(alloc, &mut text, entries, 0)?;
+    put_rescues(alloc, &mut text, points, entries, 0)?;
+    put_spent(alloc, &mut text, points.items())?;
     text.push_str(end_line(alloc, ending)?.as_str())?;
     Ok(Bytes::of(text.into_bytes()))
+}
+
+fn put_spent(alloc: Global, text: &mut String, points: &[Point]) -> Result<(), MemoryWant>
+    ensures ok { OnOk result
+        (string_bytes text.new ≡ string_bytes text.old ++ spent_lines points.now) }
+{
+    for point in points {
+        if matches!(point.left, Some(0)) {
+            text.push_str(spent_line(alloc, point.entry)?.as_str())?;
+        }
+    }
+    Ok(())
 }
 
 #[cycle(rescues)]
 fn put_rescues(
     alloc: Global,
     text: &mut String,
+    points: &Points,
     entries: &[Entry],
     depth: u128,
 ) -> Result<(), MemoryWant>
     ensures ok { OnOk result
-        (string_bytes text.new ≡ string_bytes text.old ++ rescue_lines_of_all entries.now depth) }
+        (string_bytes text.new ≡ string_bytes text.old ++ rescue_lines_of_all points.now entries.now depth) }
 {
     for entry in entries {
-        put_entry(alloc, text, entry, depth)?;
+        put_entry(alloc, text, points, entry, depth)?;
     }
     Ok(())
 }
 
 #[cycle(rescues)]
 #[tactic(auto, unfolding(crate::specs::Rescues::rescue_lines))]
-fn put_entry(alloc: Global, text: &mut String, entry: &Entry, depth: u128) -> Result<(), MemoryWant>
+fn put_entry(
+    alloc: Global,
+    text: &mut String,
+    points: &Points,
+    entry: &Entry,
+    depth: u128,
+) -> Result<(), MemoryWant>
     ensures ok { OnOk result
-        (string_bytes text.new ≡ string_bytes text.old ++ rescue_lines entry.now depth) }
+        (string_bytes text.new ≡ string_bytes text.old ++ rescue_lines points.now entry.now depth) }
 {
     match entry {
         Entry::Rescued {
@@ -52,7 +79,16 @@ fn put_entry(alloc: Global, text: &mut String, entry: &Entry, depth: u128) -> Re
             point,
             fault,
             inside,
-        } => put_rescue(alloc, text, *hart, *point, *fault, inside.as_slice(), depth),
+        } => put_rescue(
+            alloc,
+            text,
+            points,
+            *hart,
+            *point,
+            *fault,
+            inside.as_slice(),
+            depth,
+        ),
         _ => Ok(()),
     }
 }
@@ -61,6 +97,7 @@ fn put_entry(alloc: Global, text: &mut String, entry: &Entry, depth: u128) -> Re
 fn put_rescue(
     alloc: Global,
     text: &mut String,
+    points: &Points,
     hart: u8,
     point: PointRef,
     fault: Fault,
@@ -69,9 +106,10 @@ fn put_rescue(
 ) -> Result<(), MemoryWant>
     ensures ok { OnOk result
         (string_bytes text.new
-        ≡ string_bytes text.old ++ rescued_lines hart point fault inside.now depth) }
+        ≡ string_bytes text.old ++ rescued_lines points.now hart point fault inside.now depth) }
 {
-    let line = rescue_line(alloc, depth, hart, point, fault, Counts::of(inside)?)?;
+    let code = points.code(point.entry, fault.name);
+    let line = rescue_line(alloc, depth, hart, point, fault, Counts::of(inside)?, code)?;
     text.push_str(line.as_str())?;
-    put_rescues(alloc, text, inside, sum(depth, 1)?)
+    put_rescues(alloc, text, points, inside, sum(depth, 1)?)
 }

@@ -1,9 +1,22 @@
 use crate::report_text;
-use guest_words::{Ending, Fault, FaultName, PointRef, Ret};
-use plain_machine::{Entry, History};
+use guest_words::{Ending, Fault, FaultName, Kind, MemoryWant, Point, PointRef, Points, Ret};
+use run_history::{Entry, History};
 use sqlite_items::Items;
+use std::alloc::Global;
 use std::process::Abort;
 use std::test::Fail;
+
+// The point of `byte_written_twice`, of which no rescue is left.
+fn one_point(alloc: Global) -> Result<Points, MemoryWant> {
+    let mut items = Vec::new(alloc);
+    items.push(Point {
+        entry: 0x10018,
+        codes: [Ret::Code(0xffff_ffff_ffff_fffe); 8],
+        kind: Kind::Blocking,
+        left: Some(0),
+    })?;
+    Ok(Points::of(items))
+}
 
 #[test]
 fn smallest_program(rt: HostRuntime) -> Result<(), Fail> {
@@ -11,8 +24,9 @@ fn smallest_program(rt: HostRuntime) -> Result<(), Fail> {
     let ending = Ending::Exit { hart: 0, code: 7 };
     let ran = Entry::Ran { hart: 0, count: 2 };
     let history = History::of(vec![in alloc; ran, Entry::Ended { ending }]?);
-    let text = report_text(alloc, &history, &ending)?;
-    let lines = "rescue-report 1\nsteps 2\nrecords 0\nrescues 0\nend exit 7\n";
+    let text = report_text(alloc, &history, &one_point(alloc)?, &ending)?;
+    let lines = "rescue-report 1\nsteps 2\nrecords 0\nrescues 0\n\
+        spent point 0000000000010018\nend exit 7\n";
     assert!(rt; text.items() == lines.as_bytes());
     Ok(())
 }
@@ -23,10 +37,7 @@ fn byte_written_twice(rt: HostRuntime) -> Result<(), Fail> {
     let ending = Ending::Exit { hart: 0, code: 15 };
     let rescued = Entry::Rescued {
         hart: 0,
-        point: PointRef {
-            entry: 0x10018,
-            ret: Ret::Code(0xffff_ffff_ffff_fffe),
-        },
+        point: PointRef { entry: 0x10018 },
         fault: Fault {
             name: FaultName::LoadRights,
             pc: 0x10028,
@@ -36,10 +47,10 @@ fn byte_written_twice(rt: HostRuntime) -> Result<(), Fail> {
     let before = Entry::Ran { hart: 0, count: 2 };
     let behind = Entry::Ran { hart: 0, count: 3 };
     let history = History::of(vec![in alloc; before, rescued, behind, Entry::Ended { ending }]?);
-    let text = report_text(alloc, &history, &ending)?;
+    let text = report_text(alloc, &history, &one_point(alloc)?, &ending)?;
     let lines = "rescue-report 1\nsteps 9\nrecords 0\nrescues 1\n\
         rescue depth 0 hart 0 point 0000000000010018 fault load-rights pc 0000000000010028 \
-        steps 4 records 0 code -2\nend exit 15\n";
+        steps 4 records 0 code -2\nspent point 0000000000010018\nend exit 15\n";
     assert!(rt; text.items() == lines.as_bytes());
     Ok(())
 }
@@ -53,7 +64,7 @@ fn load_across_pages(rt: HostRuntime) -> Result<(), Fail> {
     };
     let ending = Ending::Fault { hart: 0, fault };
     let history = History::of(vec![in alloc; Entry::Ended { ending }]?);
-    let text = report_text(alloc, &history, &ending)?;
+    let text = report_text(alloc, &history, &one_point(alloc)?, &ending)?;
     let last = "\nend fault load-rights hart 0 pc 0000000000010004\n";
     assert!(rt; text.items().ends_with(last.as_bytes()));
     Ok(())

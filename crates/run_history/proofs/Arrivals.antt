@@ -1,5 +1,6 @@
 -- An arrival: only a hart that has just jumped to the entry of an active point makes one.
 use Rattle.std.proofs.Common.{◌≡◌, ℕ, List, Bool, true, false, ◌&&◌, nat_lt, if◌then◌else◌, length, Some, None, ap, sym, ◌∙◌, slice_get}
+use Rattle.std.proofs.lemmas.Bool.{eqb-true}
 use Rattle.guest_words.specs.declared.act.Act.{Act}
 use Rattle.guest_words.specs.declared.act.Act.TheVariants as act
 use Rattle.guest_words.specs.declared.call.Request.{Request as Call}
@@ -15,7 +16,6 @@ use Rattle.guest_words.specs.Space.{Space}
 use Rattle.guest_words.specs.State.{State}
 use Rattle.run_history.specs.Ahead.{arrival_ahead}
 use Rattle.run_history.specs.Legal.{is_arrival}
-use Rattle.run_history.proofs.Ands.{same_number}
 use Rattle.run_history.proofs.CallCases.{CallCases, act_of_by}
 use Rattle.run_history.proofs.InstCases.{InstCases, arrived-jumped, hart_act_by}
 
@@ -85,7 +85,7 @@ pub arrival-is : (p : PointRef) (a : StateAct) → is_arrival p a ≡ true → a
 arrival-is p (Ordinary t) is = cc
 arrival-is p (Fault name) is = cc
 arrival-is p (Request way port asked place) is = cc
-arrival-is p (Arrival other) is = ap (λ n. Arrival (record { entry = n })) (sym (same_number p.entry other.entry is))
+arrival-is p (Arrival other) is = ap (λ n. Arrival (record { entry = n })) (sym (eqb-true p.entry other.entry is))
 arrival-is p (End code) is = cc
 arrival-is p Absent is = cc
 

@@ -1,6 +1,7 @@
 -- Which acts are built: none makes, wakes or keeps another hart or moves a page, and under a frame
 -- none arrives or exits.
-use Rattle.std.proofs.Common.{◌≡◌, ℕ, Bool, true, false, not, ◌&&◌, ◌||◌, ◌==◌, nat_lt, List, Option, Some, None, refl, ap, sym, ◌∙◌, arith}
+use Rattle.std.proofs.Common.{◌≡◌, ℕ, Bool, true, false, not, ◌&&◌, ◌==◌, nat_lt, List, Option, Some, None, refl, ap, sym, ◌∙◌, arith}
+use Rattle.std.proofs.lemmas.Bool.{eqb-true, or_left, or_right}
 use Rattle.std.proofs.lemmas.Bool.Decides.{nat_tests}
 use Rattle.guest_words.specs.declared.abi.TheConstants.{A7}
 use Rattle.guest_words.specs.declared.act.Act.{Act}
@@ -19,7 +20,7 @@ use Rattle.guest_words.specs.HartAct.{arrival_of, arrived_or, fetched_act, hart_
 use Rattle.guest_words.specs.Harts.{reg}
 use Rattle.guest_words.specs.Space.{Space}
 use Rattle.run_history.specs.Built.{is_built_at, is_built_call, is_built_class, is_built_inst, is_built_number, is_exit_number}
-use Rattle.run_history.proofs.Ands.{and_left, and_right, if_by, same_number}
+use Rattle.run_history.proofs.Ands.{and_left, and_right, if_by}
 use Rattle.run_history.proofs.InstCases.{InstCases, fetched_by}
 
 -- a request whose call is built, of a hart with so many frames open
@@ -40,7 +41,7 @@ IsBuiltAct frames (act.Arrived point) = frames ≡ 0
 IsBuiltAct frames _ = Unit {0}
 
 other_number : (n k : ℕ) → is_built_number n ≡ true → is_built_number k ≡ false → (n == k) ≡ true → ⊥
-other_number n k is none same = cc (sym none ∙ ap is_built_number (sym (same_number n k same)) ∙ is)
+other_number n k is none same = cc (sym none ∙ ap is_built_number (sym (eqb-true n k same)) ∙ is)
 
 unframed : (frames : ℕ) (exits : Bool) → not (nat_lt 0 frames && exits) ≡ true → exits ≡ true → frames ≡ 0
 unframed frames exits none is = by (nat_lt 0 frames) refl none
@@ -48,14 +49,6 @@ unframed frames exits none is = by (nat_lt 0 frames) refl none
     by : (b : Bool) → nat_lt 0 frames ≡ b → not (b && exits) ≡ true → frames ≡ 0
     by true e none = cc (sym none ∙ ap not is)
     by false e none = grind (arith, nat_tests, e)
-
-first_of : (a b : Bool) → a ≡ true → (a || b) ≡ true
-first_of true b is = refl
-first_of false b is = cc
-
-second_of : (a b : Bool) → b ≡ true → (a || b) ≡ true
-second_of true b is = refl
-second_of false b is = is
 
 pub request_built : (hart : Hart) (frames : ℕ) → is_built_call hart frames ≡ true → IsBuiltRequest frames (request_of hart)
 unfolding request_of
@@ -65,7 +58,7 @@ request_built hart frames is =
     let exits = unframed frames (is_exit_number n) (and_right (is_built_number n) _ is) in
     let Ok : Call → Type 0 = IsBuiltRequest frames in
     if_by Ok (n == CLOSE) _ _ (λ e. tt) (λ e. if_by Ok (n == READ) _ _ (λ e. tt) (λ e. if_by Ok (n == WRITE) _ _ (λ e. tt)
-    (λ e. if_by Ok (n == EXIT) _ _ (λ e. exits (first_of (n == EXIT) (n == EXIT_GROUP) e)) (λ e. if_by Ok (n == EXIT_GROUP) _ _ (λ e. exits (second_of (n == EXIT) (n == EXIT_GROUP) e))
+    (λ e. if_by Ok (n == EXIT) _ _ (λ e. exits (or_left (n == EXIT) (n == EXIT_GROUP) e)) (λ e. if_by Ok (n == EXIT_GROUP) _ _ (λ e. exits (or_right (n == EXIT) (n == EXIT_GROUP) e))
     (λ e. if_by Ok (n == FUTEX) _ _ (λ e. absurd (other_number n FUTEX number refl e))
     (λ e. if_by Ok (n == SCHED_YIELD) _ _ (λ e. tt) (λ e. if_by Ok (n == GETTID) _ _ (λ e. tt)
     (λ e. if_by Ok (n == BRK) _ _ (λ e. absurd (other_number n BRK number refl e))

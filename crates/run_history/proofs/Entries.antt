@@ -1,5 +1,6 @@
 -- Entries of one kind: when each is legal, and the state after it.
 use Rattle.std.proofs.Common.{◌≡◌, ℕ, ◌<◌, zero, suc, Bool, true, false, not, ◌||◌, List, [], ◌∷◌, Some, None, refl, ap, ◌∙◌, slice_get, arith, eq-eqb, is_none}
+use Rattle.std.proofs.lemmas.Bool.{and_from, lt-ltb}
 use Rattle.std.specs.List.{list_any}
 use Rattle.guest_words.specs.declared.ending.Ending.{Ending}
 use Rattle.guest_words.specs.declared.ending.Ending.TheVariants as ending
@@ -17,7 +18,7 @@ use Rattle.run_history.specs.After.{after, called, next, ran}
 use Rattle.run_history.specs.Built.{is_built}
 use Rattle.run_history.specs.Legal.{can_go, can_run, is_arrival, is_ready_at, is_ready_slot, legal, may_act}
 use Rattle.run_history.specs.Quiet.{is_quiet}
-use Rattle.run_history.proofs.Ands.{and_both, and_left, and_right, less_true}
+use Rattle.run_history.proofs.Ands.{and_left, and_right}
 use Rattle.run_history.proofs.Quietness.{quiet_alone, quiet_frames}
 
 -- the state after each
@@ -41,21 +42,21 @@ after-Ended s x = refl
 -- a hart may act where the run goes on, it is ready, no frame is open and its act is built
 pub may : (s : State) (h : ℕ) → s.ending ≡ None → is_budget_spent s ≡ false → is_ready_at s h ≡ true → is_quiet s ≡ true → is_built s h ≡ true → may_act s h ≡ true
 may s h going fresh ready calm built =
-    and_both _ _ (and_both _ _ (and_both _ _ (and_both _ _ (ap is_none going) (ap not fresh)) ready) (quiet_alone s h calm)) built
+    and_from _ _ (and_from _ _ (and_from _ _ (and_from _ _ (ap is_none going) (ap not fresh)) ready) (quiet_alone s h calm)) built
 
 -- when each is legal
 
 pub legal-Ran : (s : State) (h n : ℕ) → may_act s h ≡ true → 0 < n → can_run s h n ≡ true → legal s (Ran h n) ≡ true
 unfolding legal
-legal-Ran s h n may some runs = and_both _ _ (and_both _ _ may (less_true 0 n some)) runs
+legal-Ran s h n may some runs = and_from _ _ (and_from _ _ may (lt-ltb 0 n some)) runs
 
 pub legal-Entered : (s : State) (h : ℕ) (p : PointRef) → may_act s h ≡ true → is_arrival p (act_of s h) ≡ true → legal s (Entered h p) ≡ true
 unfolding legal
-legal-Entered s h p may at = and_both _ _ may at
+legal-Entered s h p may at = and_from _ _ may at
 
 pub legal-Called : (s : State) (h : ℕ) (r : Record) → may_act s h ≡ true → fits s (act_of s h) r ≡ true → legal s (Called h r) ≡ true
 unfolding legal
-legal-Called s h r may fit = and_both _ _ may fit
+legal-Called s h r may fit = and_from _ _ may fit
 
 -- what is legal tells
 
@@ -91,21 +92,21 @@ same_name BlockedInPoint = refl
 
 pub legal-Budget : (s : State) → s.ending ≡ None → is_budget_spent s ≡ true → legal s (Ended ending.Budget) ≡ true
 unfolding legal
-legal-Budget s going spent = and_both _ _ (ap is_none going) spent
+legal-Budget s going spent = and_from _ _ (ap is_none going) spent
 
 pub legal-Stuck : (s : State) → s.ending ≡ None → is_budget_spent s ≡ false → is_stuck s ≡ true → legal s (Ended ending.Stuck) ≡ true
 unfolding legal
-legal-Stuck s going fresh stuck = and_both _ _ (and_both _ _ (ap is_none going) (ap not fresh)) stuck
+legal-Stuck s going fresh stuck = and_from _ _ (and_from _ _ (ap is_none going) (ap not fresh)) stuck
 
 pub legal-Exit : (s : State) (h code : ℕ) → may_act s h ≡ true → act_of s h ≡ End code → legal s (Ended (ending.Exit h code)) ≡ true
 unfolding legal
-legal-Exit s h code may act = and_both _ _ may (ap (is_end code) act ∙ eq-eqb code code refl)
+legal-Exit s h code may act = and_from _ _ may (ap (is_end code) act ∙ eq-eqb code code refl)
 
 pub legal-Fault : (s : State) (h pc : ℕ) (name : FaultName) → may_act s h ≡ true → act_of s h ≡ Fault name → stands_at pc (slice_get s.slots h) ≡ true → is_quiet s ≡ true
     → legal s (Ended (ending.Fault h (record { name = name; pc = pc }))) ≡ true
 unfolding legal
 legal-Fault s h pc name may act at calm =
-    and_both _ _ may (and_both _ _ (and_both _ _ at (ap (is_fault name) act ∙ same_name name)) (eq-eqb (frames_at s h) 0 (quiet_frames s h calm)))
+    and_from _ _ may (and_from _ _ (and_from _ _ at (ap (is_fault name) act ∙ same_name name)) (eq-eqb (frames_at s h) 0 (quiet_frames s h calm)))
 
 -- a hart that is ready isn't stuck
 pub ready_unstuck : (s : State) (h : ℕ) → is_ready_at s h ≡ true → is_stuck s ≡ false

@@ -1,5 +1,6 @@
 -- The fault that a ready hart is about to make is what its act and its pc say.
 use Rattle.std.proofs.Common.{◌≡◌, ℕ, Bool, true, false, if◌then◌else◌, Option, Some, None, refl, ap, sym, ◌∙◌, slice_get, eq-eqb}
+use Rattle.std.proofs.lemmas.Bool.{and_from}
 use Rattle.guest_words.specs.declared.fault.Fault.{Fault as FaultAt}
 use Rattle.guest_words.specs.declared.hart.Slot.{Slot}
 use Rattle.guest_words.specs.Act.{StateAct, Ordinary, Fault, Request, Arrival, End, Absent, act_of}
@@ -7,7 +8,6 @@ use Rattle.guest_words.specs.Endings.{faults, is_fault, stands_at}
 use Rattle.guest_words.specs.State.{State}
 use Rattle.run_history.specs.Built.{is_built, is_built_slot}
 use Rattle.run_history.specs.Faults.{fault_by, fault_of, pc_at, pc_in}
-use Rattle.run_history.proofs.Ands.{and_both}
 use Rattle.run_history.proofs.Entries.{same_name}
 
 -- a fault that a hart is about to make, whose act is built
@@ -42,7 +42,7 @@ faulting s h fault is = by (is_built s h) refl is
 
 -- it is the fault that a licence asks for
 pub faulting_faults : (s : State) (h : ℕ) (fault : FaultAt) → Faulting s h fault → faults s h fault ≡ true
-faulting_faults s h fault is = and_both _ _ is.at (ap (is_fault fault.name) is.act ∙ same_name fault.name)
+faulting_faults s h fault is = and_from _ _ is.at (ap (is_fault fault.name) is.act ∙ same_name fault.name)
 
 -- no slot, no fault
 pub no_fault : (s : State) (h : ℕ) → slice_get s.slots h ≡ None → fault_of s h ≡ None

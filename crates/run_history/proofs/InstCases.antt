@@ -1,5 +1,6 @@
 -- What an instruction comes to: an eliminator for what is said of the acts of a hart alone.
 use Rattle.std.proofs.Common.{◌≡◌, ℕ, ◌%◌, Bool, true, false, not, ◌&&◌, ◌==◌, nat_lt, if◌then◌else◌, List, Option, Some, None, refl, ap, sym, ◌∙◌, slice_set}
+use Rattle.std.proofs.lemmas.Bool.{not-false}
 use Rattle.guest_words.specs.declared.act.Act.{Act}
 use Rattle.guest_words.specs.declared.act.Act.TheVariants as act
 use Rattle.guest_words.specs.declared.class.Class.{Class}
@@ -21,7 +22,7 @@ use Rattle.guest_words.specs.Instructions.{instruction_of}
 use Rattle.guest_words.specs.Points.{active_at}
 use Rattle.guest_words.specs.Widths.{bytes_in}
 use Rattle.guest_words.specs.Space.{Space, can_execute, can_read, can_write, number_at}
-use Rattle.run_history.proofs.Ands.{if_by, not_false}
+use Rattle.run_history.proofs.Ands.{if_by}
 
 -- what has to be shown of each thing that an instruction can come to
 pub record InstCases (P : Act → Type 0) (m : Space) (hart : Hart) : Type 0 where
@@ -61,12 +62,12 @@ module _ (P : Act → Type 0) (m : Space) (hart : Hart) (cases : InstCases P m h
   of_class (class.StoreConditional width) inst calls =
       if_by P (not (first hart inst % bytes_in width == 0)) _ _ (λ e. cases.fault _)
       (λ e. if_by P (not (can_write m (first hart inst) (bytes_in width))) _ _ (λ e. cases.fault _)
-      (λ may. if_by P (holds hart (first hart inst) width) _ _ (λ e. cases.store _ _ width _ (state-with_reg (past hart) inst.rd 0) (not_false _ may))
+      (λ may. if_by P (holds hart (first hart inst) width) _ _ (λ e. cases.store _ _ width _ (state-with_reg (past hart) inst.rd 0) (not-false _ may))
       (λ e. cases.next _ (state-with_reg (past hart) inst.rd 1))))
   of_class (class.Atomic width) inst calls =
       if_by P (not (first hart inst % bytes_in width == 0)) _ _ (λ e. cases.fault _)
       (λ e. if_by P (not (can_write m (first hart inst) (bytes_in width))) _ _ (λ e. cases.fault _)
-      (λ may. cases.store _ _ width _ (state-with_reg (past hart) inst.rd _) (not_false _ may)))
+      (λ may. cases.store _ _ width _ (state-with_reg (past hart) inst.rd _) (not-false _ may)))
 
   of_inst : (i : Option Inst) → (inst_at m hart.pc ≡ i) → P (act_of_inst m hart i)
   unfolding act_of_inst

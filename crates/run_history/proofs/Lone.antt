@@ -1,5 +1,6 @@
 -- A hart that is alone at the start stays alone, since no act that is built makes or wakes another.
 use Rattle.std.proofs.Common.{◌≡◌, ◌≢◌, ℕ, zero, suc, ◌+◌, Bool, true, false, not, ◌&&◌, ◌||◌, nat_lt, List, [], ◌∷◌, length, take, drop, inl, inr, Option, Some, None, option_map, refl, ap, sym, ◌∙◌, slice_get, subst, arith}
+use Rattle.std.proofs.lemmas.Bool.{or_from, or_parts}
 use Rattle.std.proofs.lemmas.Option.{slice_get-map}
 use Rattle.std.specs.List.{list_any}
 use Rattle.guest_words.specs.declared.call.Request.{Request as Call}
@@ -16,10 +17,10 @@ use Rattle.run_history.specs.After.{after, after_row, called, next, ran, rescued
 use Rattle.run_history.specs.Built.{is_built}
 use Rattle.run_history.specs.Legal.{can_go, can_run, is_alone, is_going, is_ordinary, is_ready_at, is_ready_slot, legal, may_act}
 use Rattle.run_history.specs.Run.{is_run}
-use Rattle.run_history.proofs.Ands.{and_left, and_right, neither, or_left, or_right, same_or}
+use Rattle.run_history.proofs.Ands.{and_left, and_right, same_or}
 use Rattle.run_history.proofs.BuiltActs.{IsBuiltAct, IsBuiltRequest, hart_act_built}
 use Rattle.run_history.proofs.CallCases.{CallCases, built_act_by}
-use Rattle.run_history.proofs.Slots.{changed-other}
+use Rattle.run_history.proofs.Slots.{changed-other, drop_next}
 use Rattle.run_history.proofs.Walk.{Leads, OwnChanges, breaks_by, called_walked, entered_walked, maps_by, next_by, next_walked, rescued_walked, unmaps_by, value_by}
 
 -- tests of the slots, one by one
@@ -30,19 +31,16 @@ is_in test (Some slot) = test slot
 
 any_each : (test : Slot → Bool) (slots : List Slot) → list_any test slots ≡ false → (k : ℕ) → is_in test (slice_get slots k) ≡ false
 any_each test [] none k = refl
-any_each test (x ∷ xs) none zero = or_left (test x) _ none
-any_each test (x ∷ xs) none (suc k) = any_each test xs (or_right (test x) _ none) k
+any_each test (x ∷ xs) none zero = (or_parts (test x) _ none).0
+any_each test (x ∷ xs) none (suc k) = any_each test xs ((or_parts (test x) _ none).1) k
 
 each_any : (test : Slot → Bool) (slots : List Slot) → ((k : ℕ) → is_in test (slice_get slots k) ≡ false) → list_any test slots ≡ false
 each_any test [] each = refl
-each_any test (x ∷ xs) each = neither (test x) _ (each zero) (each_any test xs (λ k. each (suc k)))
+each_any test (x ∷ xs) each = or_from (test x) _ (each zero) (each_any test xs (λ k. each (suc k)))
 
 -- no slot but this one has a hart that is ready or waits
 pub IsLone : ℕ → List Slot → Type 0
 IsLone h slots = (k : ℕ) → k ≢ h → is_in is_live (slice_get slots k) ≡ false
-
-drop_next : (h : ℕ) (x : Slot) (xs : List Slot) → drop (suc h + 1) (x ∷ xs) ≡ drop (h + 1) xs
-drop_next h x xs = let next : suc h + 1 ≡ suc (h + 1) = omega arith in ap (λ n. drop n (x ∷ xs)) next
 
 other_next : (h : ℕ) (x : Slot) (xs : List Slot) → any_other is_live (suc h) (x ∷ xs) ≡ ((is_live x || list_any is_live (take h xs)) || list_any is_live (drop (h + 1) xs))
 other_next h x xs = ap (λ ys. (is_live x || list_any is_live (take h xs)) || list_any is_live ys) (drop_next h x xs)
@@ -52,12 +50,12 @@ unfolding IsLone
 other_each h [] none k apart = refl
 other_each zero (x ∷ xs) none zero apart = absurd (apart refl)
 other_each zero (x ∷ xs) none (suc k) apart = any_each is_live xs none k
-other_each (suc h) (x ∷ xs) none zero apart = or_left (is_live x) _ (or_left (is_live x || list_any is_live (take h xs)) _ (sym (other_next h x xs) ∙ none))
+other_each (suc h) (x ∷ xs) none zero apart = (or_parts (is_live x) _ ((or_parts (is_live x || list_any is_live (take h xs)) _ (sym (other_next h x xs) ∙ none)).0)).0
 other_each (suc h) (x ∷ xs) none (suc k) apart =
     let split = sym (other_next h x xs) ∙ none in
-    let front = or_right (is_live x) (list_any is_live (take h xs)) (or_left (is_live x || list_any is_live (take h xs)) _ split) in
-    let back = or_right (is_live x || list_any is_live (take h xs)) (list_any is_live (drop (h + 1) xs)) split in
-    other_each h xs (neither _ _ front back) k (λ e. apart (ap suc e))
+    let front = (or_parts (is_live x) (list_any is_live (take h xs)) ((or_parts (is_live x || list_any is_live (take h xs)) _ split).0)).1 in
+    let back = (or_parts (is_live x || list_any is_live (take h xs)) (list_any is_live (drop (h + 1) xs)) split).1 in
+    other_each h xs (or_from _ _ front back) k (λ e. apart (ap suc e))
 
 pub each_other_none : (h : ℕ) (slots : List Slot) → IsLone h slots → any_other is_live h slots ≡ false
 unfolding IsLone
@@ -68,7 +66,7 @@ each_other_none (suc h) (x ∷ xs) each =
     let rest = each_other_none h xs (λ k apart. each (suc k) (λ e. apart (omega (arith, e)))) in
     let here = each zero (λ e. omega (arith, e)) in
     other_next h x xs
-    ∙ neither _ _ (neither _ _ here (or_left (list_any is_live (take h xs)) _ rest)) (or_right (list_any is_live (take h xs)) _ rest)
+    ∙ or_from _ _ (or_from _ _ here ((or_parts (list_any is_live (take h xs)) _ rest).0)) ((or_parts (list_any is_live (take h xs)) _ rest).1)
 
 module _ (h : ℕ) where
   -- the other slots are live or not as they were
@@ -151,7 +149,7 @@ module _ (h : ℕ) where
 
   unlive : (o : Option Slot) → is_in is_live o ≡ false → is_ready_slot o ≡ true → ⊥
   unlive None live ready = cc
-  unlive (Some slot) live ready = cc (sym ready ∙ or_left (is_ready slot.hart.state) _ live)
+  unlive (Some slot) live ready = cc (sym ready ∙ (or_parts (is_ready slot.hart.state) _ live).0)
 
   acts_alone : (s : State) (k : ℕ) → IsLone h s.slots → may_act s k ≡ true → k ≡ h
   unfolding IsLone
@@ -185,7 +183,7 @@ module _ (h : ℕ) where
 
   unready : (o : Option Slot) → is_in is_live o ≡ false → is_in (λ slot. is_ready slot.hart.state) o ≡ false
   unready None live = refl
-  unready (Some slot) live = or_left (is_ready slot.hart.state) _ live
+  unready (Some slot) live = (or_parts (is_ready slot.hart.state) _ live).0
 
   pub stuck_where : (s : State) → IsLone h s.slots → is_in (λ slot. is_ready slot.hart.state) (slice_get s.slots h) ≡ false → is_stuck s ≡ true
   unfolding IsLone

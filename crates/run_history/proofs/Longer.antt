@@ -1,5 +1,6 @@
 -- A Ran with one act more, alone and as the last entry of the inside of a call.
 use Rattle.std.proofs.Common.{◌≡◌, ℕ, ◌+◌, ◌<◌, true, ◌&&◌, nat_lt, List, [], ◌∷◌, refl, ap, sym, ◌∙◌, subst, arith}
+use Rattle.std.proofs.lemmas.Bool.{and_from, eqb-true, lt-ltb}
 use Rattle.std.proofs.lemmas.Bool.Decides.{nat_tests}
 use Rattle.guest_words.specs.State.{State, frames_at}
 use Rattle.run_history.specs.declared.entry.Entry.{Entry, Ran, Entered, Called, Rescued', Ended}
@@ -7,7 +8,7 @@ use Rattle.run_history.specs.After.{after, next, state_after}
 use Rattle.run_history.specs.LastEntry.{can_lengthen, ends_in_ran, lengthened, longer}
 use Rattle.run_history.specs.Legal.{can_go, is_of, legal, legal_inside, may_act}
 use Rattle.run_history.specs.Run.{is_run}
-use Rattle.run_history.proofs.Ands.{and_both, and_left, and_right, less_true, same_number}
+use Rattle.run_history.proofs.Ands.{and_left, and_right}
 use Rattle.run_history.proofs.RunSteps.{can_run-more, ran-more}
 
 pub after-Ran_more : (s : State) (h n : ℕ) → after s (Ran h (n + 1)) ≡ next (after s (Ran h n)) h
@@ -18,7 +19,7 @@ pub legal-Ran_more : (s : State) (h n : ℕ) → legal s (Ran h n) ≡ true → 
 unfolding legal after
 legal-Ran_more s h n is goes =
     let some : nat_lt 0 (n + 1) ≡ true = grind (arith, nat_tests) in
-    and_both _ _ (and_both _ _ (and_left _ _ (and_left _ _ is)) some) (can_run-more s h n (and_right (may_act s h && nat_lt 0 n) _ is) goes)
+    and_from _ _ (and_from _ _ (and_left _ _ (and_left _ _ is)) some) (can_run-more s h n (and_right (may_act s h && nat_lt 0 n) _ is) goes)
 
 -- what holds of an entry that is made longer, where a hart can go on behind it
 record Grown (s : State) (h : ℕ) (e : Entry) : Type 0 where
@@ -28,7 +29,7 @@ record Grown (s : State) (h : ℕ) (e : Entry) : Type 0 where
 
 entry_grown : (s : State) (h : ℕ) (e : Entry) → can_lengthen e ≡ true → is_of h e ≡ true → legal s e ≡ true → can_go (after s e) h ≡ true → Grown s h e
 entry_grown s h (Ran k n) can is may goes =
-    let at : k ≡ h = same_number k h is in
+    let at : k ≡ h = eqb-true k h is in
     let goes_k : can_go (after s (Ran k n)) k ≡ true = subst (λ (i : ℕ). can_go (after s (Ran k n)) i ≡ true) (sym at) goes in
     record {
       is = is;
@@ -55,9 +56,9 @@ pub is_run-lengthened : (s : State) (h d : ℕ) (es : List Entry) → ends_in_ra
 is_run-lengthened s h d [] ends is goes = cc
 is_run-lengthened s h d (e ∷ []) ends is goes =
     let here = and_left _ _ (and_left _ _ is) in
-    and_both _ true (entry_grown s h e ends (and_left _ _ here) (and_right (is_of h e) _ here) goes).may refl
+    and_from _ true (entry_grown s h e ends (and_left _ _ here) (and_right (is_of h e) _ here) goes).may refl
 is_run-lengthened s h d (e ∷ (f ∷ rest)) ends is goes =
-    and_both _ _ (and_right (is_of h e) _ (and_left _ _ (and_left _ _ is)))
+    and_from _ _ (and_right (is_of h e) _ (and_left _ _ (and_left _ _ is)))
     (is_run-lengthened (after s e) h d (f ∷ rest) ends (and_right (is_of h e && legal s e && nat_lt d (frames_at (after s e) h)) _ is) goes)
 
 -- they are the inside of a call where its frame is still open
@@ -68,7 +69,7 @@ legal_inside-lengthened s h d (e ∷ []) ends is goes above =
     let here = and_left _ _ (and_left _ _ is) in
     let grown = entry_grown s h e ends (and_left _ _ here) (and_right (is_of h e) _ here) goes in
     let less : d < frames_at (after s (longer e)) h = subst (λ (t : State). d < frames_at t h) (sym grown.after) above in
-    and_both _ true (and_both _ _ (and_both _ _ grown.is grown.may) (less_true d _ less)) refl
+    and_from _ true (and_from _ _ (and_from _ _ grown.is grown.may) (lt-ltb d _ less)) refl
 legal_inside-lengthened s h d (e ∷ (f ∷ rest)) ends is goes above =
-    and_both _ _ (and_left _ _ is)
+    and_from _ _ (and_left _ _ is)
     (legal_inside-lengthened (after s e) h d (f ∷ rest) ends (and_right (is_of h e && legal s e && nat_lt d (frames_at (after s e) h)) _ is) goes above)

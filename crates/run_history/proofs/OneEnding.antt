@@ -1,5 +1,6 @@
 -- A run ends once, with its last entry.
 use Rattle.std.proofs.Common.{◌≡◌, ℕ, true, false, not, List, [], ◌∷◌, Some, None, is_none, refl, ap, sym, ◌∙◌, subst}
+use Rattle.std.proofs.lemmas.Bool.{and_from}
 use Rattle.guest_words.specs.declared.ending.Ending.{Ending}
 use Rattle.guest_words.specs.declared.ending.Ending.TheVariants as ending
 use Rattle.guest_words.specs.State.{State}
@@ -7,7 +8,7 @@ use Rattle.run_history.specs.declared.entry.Entry.{Entry, Ran, Entered, Called, 
 use Rattle.run_history.specs.After.{after, state_after}
 use Rattle.run_history.specs.Legal.{legal, is_ending, may_act}
 use Rattle.run_history.specs.Run.{EndsOnce, has_no_end, is_ended, is_run}
-use Rattle.run_history.proofs.Ands.{and_left, and_right, and_both}
+use Rattle.run_history.proofs.Ands.{and_left, and_right}
 use Rattle.run_history.proofs.Kept.{after_ending}
 
 may_goes : (s : State) (h : ℕ) → may_act s h ≡ true → is_none s.ending ≡ true
@@ -42,7 +43,7 @@ once_more e es x other rest =
     record {
       before = e ∷ rest.before;
       parts = ap (λ fs. e ∷ fs) rest.parts;
-      none = and_both _ _ (ap not other) rest.none;
+      none = and_from _ _ (ap not other) rest.none;
     }
 
 last_once : (s : State) (y : Ending) (es : List Entry) (x : Ending) → is_run (after s (Ended y)) es ≡ true → (state_after (after s (Ended y)) es).ending ≡ Some x → EndsOnce (Ended y ∷ es) x

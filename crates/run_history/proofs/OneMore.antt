@@ -1,13 +1,13 @@
 -- The inside of a call with one entry or one act more: a run from where the call was entered, and,
 -- while its frame is open, the inside of a rescue.
 use Rattle.std.proofs.Common.{◌≡◌, ℕ, ◌<◌, Bool, true, false, if◌then◌else◌, List, [], ◌∷◌, ◌++◌, refl, ap, sym, ◌∙◌, subst, arith, eq-eqb}
+use Rattle.std.proofs.lemmas.Bool.{and_from}
 use Rattle.guest_words.specs.State.{State, frames_at}
 use Rattle.run_history.specs.declared.entry.Entry.{Entry, Ran}
 use Rattle.run_history.specs.After.{after, next, ran, state_after}
 use Rattle.run_history.specs.LastEntry.{ends_in_ran, lengthened, with_act}
 use Rattle.run_history.specs.Legal.{can_go, can_run, is_of, legal, legal_inside, may_act}
 use Rattle.run_history.specs.Run.{is_run}
-use Rattle.run_history.proofs.Ands.{and_both}
 use Rattle.run_history.proofs.Appends.{is_run-push, legal_inside-push, legal_inside-runs, state_after-push}
 use Rattle.run_history.proofs.Entries.{legal-Ran}
 use Rattle.run_history.proofs.Longer.{is_run-lengthened, legal_inside-lengthened, state_after-lengthened}
@@ -30,7 +30,7 @@ inside-push from h d es s e so_far is own may =
 
 pub one_run : (s : State) (h : ℕ) → can_go s h ≡ true → can_run s h 1 ≡ true
 unfolding can_run
-one_run s h goes = and_both _ true goes refl
+one_run s h goes = and_from _ true goes refl
 
 pub one_ran : (s : State) (h : ℕ) → after s (Ran h 1) ≡ next s h
 unfolding after ran

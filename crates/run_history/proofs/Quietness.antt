@@ -1,5 +1,6 @@
 -- The frames of the other harts, and states with no frame at all.
 use Rattle.std.proofs.Common.{◌≡◌, ◌≢◌, ℕ, zero, suc, ◌+◌, ◌-◌, Bool, true, false, ◌&&◌, ◌==◌, List, [], ◌∷◌, length, take, drop, replicate, refl, ap, sym, ◌∙◌, slice_get, arith, ◌≢◌}
+use Rattle.std.proofs.lemmas.Bool.{and_from, eq-eqb, eqb-true}
 use Rattle.std.proofs.lemmas.Bool.Decides.{nat_tests}
 use Rattle.std.specs.List.{list_all}
 use Rattle.guest_words.specs.declared.hart.Slot.{Slot}
@@ -14,7 +15,8 @@ use Rattle.guest_words.specs.Start.{start_of, slot_of, empty_hart}
 use Rattle.run_history.specs.After.{next, ran, called, rescued_from}
 use Rattle.run_history.specs.Legal.{is_alone}
 use Rattle.run_history.specs.Quiet.{are_quiet, is_quiet}
-use Rattle.run_history.proofs.Ands.{and_left, and_right, and_both}
+use Rattle.run_history.proofs.Ands.{and_left, and_right}
+use Rattle.run_history.proofs.Slots.{drop_next}
 use Rattle.run_history.proofs.FewerFrames.{HasFewer, next_fewer, ran_fewer, called_fewer, rescued_fewer}
 
 -- the tests of the slots, by number
@@ -22,26 +24,17 @@ use Rattle.run_history.proofs.FewerFrames.{HasFewer, next_fewer, ran_fewer, call
 abbrev frameless : Slot → Bool
 frameless slot = length slot.frames == 0
 
-none_then : (n : ℕ) → (n == 0) ≡ true → n ≡ 0
-none_then n is = grind (arith, nat_tests, is)
-
-then_none : (n : ℕ) → n ≡ 0 → (n == 0) ≡ true
-then_none n is = grind (arith, nat_tests, is)
-
 pub quiet_each : (slots : List Slot) → are_quiet slots ≡ true → (k : ℕ) → frame_count (slice_get slots k) ≡ 0
 quiet_each [] is k = refl
-quiet_each (x ∷ xs) is zero = none_then (length x.frames) (and_left _ _ is)
+quiet_each (x ∷ xs) is zero = eqb-true (length x.frames) 0 (and_left _ _ is)
 quiet_each (x ∷ xs) is (suc k) = quiet_each xs (and_right (frameless x) _ is) k
 
 pub each_quiet : (slots : List Slot) → ((k : ℕ) → frame_count (slice_get slots k) ≡ 0) → are_quiet slots ≡ true
 each_quiet [] each = refl
-each_quiet (x ∷ xs) each = and_both _ _ (then_none (length x.frames) (each zero)) (each_quiet xs (λ k. each (suc k)))
+each_quiet (x ∷ xs) each = and_from _ _ (eq-eqb (length x.frames) 0 (each zero)) (each_quiet xs (λ k. each (suc k)))
 
 abbrev are_alone : ℕ → List Slot → Bool
 are_alone h slots = each_other frameless h slots
-
-drop_next : (h : ℕ) (x : Slot) (xs : List Slot) → drop (suc h + 1) (x ∷ xs) ≡ drop (h + 1) xs
-drop_next h x xs = let next : suc h + 1 ≡ suc (h + 1) = omega arith in ap (λ n. drop n (x ∷ xs)) next
 
 alone_next : (h : ℕ) (x : Slot) (xs : List Slot) → are_alone (suc h) (x ∷ xs) ≡ (frameless x && list_all frameless (take h xs) && list_all frameless (drop (h + 1) xs))
 alone_next h x xs = ap (λ ys. frameless x && list_all frameless (take h xs) && list_all frameless ys) (drop_next h x xs)
@@ -50,10 +43,10 @@ pub alone_each : (h : ℕ) (slots : List Slot) → are_alone h slots ≡ true �
 alone_each h [] is k apart = refl
 alone_each zero (x ∷ xs) is zero apart = absurd (apart refl)
 alone_each zero (x ∷ xs) is (suc k) apart = quiet_each xs is k
-alone_each (suc h) (x ∷ xs) is zero apart = none_then (length x.frames) (and_left _ _ (and_left _ _ (sym (alone_next h x xs) ∙ is)))
+alone_each (suc h) (x ∷ xs) is zero apart = eqb-true (length x.frames) 0 (and_left _ _ (and_left _ _ (sym (alone_next h x xs) ∙ is)))
 alone_each (suc h) (x ∷ xs) is (suc k) apart =
     let split = sym (alone_next h x xs) ∙ is in
-    alone_each h xs (and_both _ _ (and_right (frameless x) _ (and_left _ _ split)) (and_right (frameless x && list_all frameless (take h xs)) _ split)) k
+    alone_each h xs (and_from _ _ (and_right (frameless x) _ (and_left _ _ split)) (and_right (frameless x && list_all frameless (take h xs)) _ split)) k
     (λ e. apart (ap suc e))
 
 pub each_alone : (h : ℕ) (slots : List Slot) → ((k : ℕ) → k ≢ h → frame_count (slice_get slots k) ≡ 0) → are_alone h slots ≡ true
@@ -63,7 +56,7 @@ each_alone zero (x ∷ xs) each = each_quiet xs (λ k. each (suc k) (λ e. omega
 each_alone (suc h) (x ∷ xs) each =
     let rest = each_alone h xs (λ k apart. each (suc k) (λ e. apart (omega (arith, e)))) in
     alone_next h x xs
-    ∙ and_both _ _ (and_both _ _ (then_none (length x.frames) (each zero (λ e. omega (arith, e)))) (and_left _ _ rest)) (and_right (list_all frameless (take h xs)) _ rest)
+    ∙ and_from _ _ (and_from _ _ (eq-eqb (length x.frames) 0 (each zero (λ e. omega (arith, e)))) (and_left _ _ rest)) (and_right (list_all frameless (take h xs)) _ rest)
 
 -- what opens no frame leaves the others without one
 

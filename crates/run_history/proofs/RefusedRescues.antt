@@ -1,5 +1,6 @@
 -- Why a rescue has no licence: each reason makes its entry illegal, also where it lies in an inside.
-use Rattle.std.proofs.Common.{◌≡◌, ℕ, ◌+◌, Bool, true, false, not, ◌&&◌, ◌==◌, nat_lt, List, ◌∷◌, ◌++◌, refl, ap, ◌∙◌, slice_get}
+use Rattle.std.proofs.Common.{◌≡◌, ℕ, ◌+◌, true, false, not, ◌&&◌, ◌==◌, nat_lt, List, ◌∷◌, ◌++◌, refl, ap, ◌∙◌, slice_get}
+use Rattle.std.proofs.lemmas.Bool.{and_left, and_right}
 use Rattle.guest_words.specs.declared.ending.Ending.{Ending}
 use Rattle.guest_words.specs.declared.fault.Fault.{Fault as FaultAt}
 use Rattle.guest_words.specs.declared.fault.FaultName.{FaultName}
@@ -16,21 +17,14 @@ use Rattle.run_history.specs.Legal.{ends_in, is_arrival, is_licensed, is_of, leg
 use Rattle.run_history.proofs.Appends.{legal_inside-append}
 use Rattle.run_history.proofs.Insides.{legal-Rescued}
 
-and-right_false : (a b : Bool) → b ≡ false → (a && b) ≡ false
-and-right_false true b absent = absent
-and-right_false false b absent = refl
-
-and-left_false : (a b : Bool) → a ≡ false → (a && b) ≡ false
-and-left_false a b absent = ap (λ c. c && b) absent
-
 -- the end of the inside
 
 no_fault : (s : State) (h : ℕ) (fault : FaultAt) (frames : ℕ) → faults s h fault ≡ false → ends_in s h fault frames ≡ false
-no_fault s h fault frames absent = and-right_false ((frames_at s h == frames + 1) && not (is_budget_spent s) && is_built s h) (faults s h fault) absent
+no_fault s h fault frames absent = and_right ((frames_at s h == frames + 1) && not (is_budget_spent s) && is_built s h) (faults s h fault) absent
 
 no_fault_in : (s : State) (a : StateAct) (h : ℕ) (fault : FaultAt) (frames : ℕ) → act_of s h ≡ a → is_fault fault.name a ≡ false → ends_in s h fault frames ≡ false
 no_fault_in s a h fault frames act other =
-    no_fault s h fault frames (and-right_false (stands_at fault.pc (slice_get s.slots h)) (is_fault fault.name (act_of s h)) (ap (is_fault fault.name) act ∙ other))
+    no_fault s h fault frames (and_right (stands_at fault.pc (slice_get s.slots h)) (is_fault fault.name (act_of s h)) (ap (is_fault fault.name) act ∙ other))
 
 -- a call that would go on needs no rescue
 pub no_licence-at_an_ordinary_act : (s t : State) (h : ℕ) (fault : FaultAt) (frames : ℕ) → act_of s h ≡ Ordinary t → ends_in s h fault frames ≡ false
@@ -53,7 +47,7 @@ no_licence-for_another_name s name h fault frames act other = no_fault_in s (Fau
 -- and where it is met
 pub no_licence-for_another_place : (s : State) (h : ℕ) (fault : FaultAt) (frames : ℕ) → stands_at fault.pc (slice_get s.slots h) ≡ false → ends_in s h fault frames ≡ false
 no_licence-for_another_place s h fault frames elsewhere =
-    no_fault s h fault frames (and-left_false (stands_at fault.pc (slice_get s.slots h)) (is_fault fault.name (act_of s h)) elsewhere)
+    no_fault s h fault frames (and_left (stands_at fault.pc (slice_get s.slots h)) (is_fault fault.name (act_of s h)) elsewhere)
 
 -- a fault in a frame further in or out is another frame's
 pub no_licence-in_another_frame : (s : State) (h : ℕ) (fault : FaultAt) (frames : ℕ) → (frames_at s h == frames + 1) ≡ false → ends_in s h fault frames ≡ false
@@ -63,7 +57,7 @@ no_licence-in_another_frame s h fault frames other = ap (λ b. b && not (is_budg
 pub no_licence-past_the_budget : (s : State) (h : ℕ) (fault : FaultAt) (frames : ℕ) → is_budget_spent s ≡ true → ends_in s h fault frames ≡ false
 no_licence-past_the_budget s h fault frames spent =
     ap (λ b. (frames_at s h == frames + 1) && not b && is_built s h && faults s h fault) spent
-    ∙ ap (λ b. b && is_built s h && faults s h fault) (and-right_false (frames_at s h == frames + 1) false refl)
+    ∙ ap (λ b. b && is_built s h && faults s h fault) (and_right (frames_at s h == frames + 1) false refl)
 
 -- the entries of the inside
 
@@ -78,40 +72,40 @@ no_licence-with_an_ending s h frames x es = refl
 -- each is legal
 pub no_licence-with_an_illegal_entry : (s : State) (h frames : ℕ) (e : Entry) (es : List Entry) → legal s e ≡ false → legal_inside s h frames (e ∷ es) ≡ false
 no_licence-with_an_illegal_entry s h frames e es illegal =
-    ap (λ b. b && nat_lt frames (frames_at (after s e) h) && legal_inside (after s e) h frames es) (and-right_false (is_of h e) (legal s e) illegal)
+    ap (λ b. b && nat_lt frames (frames_at (after s e) h) && legal_inside (after s e) h frames es) (and_right (is_of h e) (legal s e) illegal)
 
 -- none leaves the point's frame
 pub no_licence-out_of_the_frame : (s : State) (h frames : ℕ) (e : Entry) (es : List Entry) → nat_lt frames (frames_at (after s e) h) ≡ false → legal_inside s h frames (e ∷ es) ≡ false
 no_licence-out_of_the_frame s h frames e es out =
-    ap (λ b. b && legal_inside (after s e) h frames es) (and-right_false (is_of h e && legal s e) (nat_lt frames (frames_at (after s e) h)) out)
+    ap (λ b. b && legal_inside (after s e) h frames es) (and_right (is_of h e && legal s e) (nat_lt frames (frames_at (after s e) h)) out)
 
 -- and what holds of the first holds of each that comes later
 pub no_licence-later : (s : State) (h frames : ℕ) (es fs : List Entry) → legal_inside (state_after s es) h frames fs ≡ false → legal_inside s h frames (es ++ fs) ≡ false
-no_licence-later s h frames es fs illegal = legal_inside-append s h frames es fs ∙ and-right_false (legal_inside s h frames es) _ illegal
+no_licence-later s h frames es fs illegal = legal_inside-append s h frames es fs ∙ and_right (legal_inside s h frames es) _ illegal
 
 -- the entry of the rescue
 
 pub rescue_without_a_licence : (s : State) (h : ℕ) (point : PointRef) (fault : FaultAt) (inside : List Entry) → is_licensed s h point fault inside ≡ false
     → legal s (v.Rescued h point fault inside) ≡ false
 rescue_without_a_licence s h point fault inside absent =
-    legal-Rescued s h point fault inside ∙ and-right_false (may_act s h && is_arrival point (act_of s h)) (is_licensed s h point fault inside) absent
+    legal-Rescued s h point fault inside ∙ and_right (may_act s h && is_arrival point (act_of s h)) (is_licensed s h point fault inside) absent
 
 pub rescue_without_a_fault : (s : State) (h : ℕ) (point : PointRef) (fault : FaultAt) (inside : List Entry)
     → ends_in (state_after (enter s h point) inside) h fault (frames_at s h) ≡ false → legal s (v.Rescued h point fault inside) ≡ false
 rescue_without_a_fault s h point fault inside absent =
-    rescue_without_a_licence s h point fault inside (and-right_false (legal_inside (enter s h point) h (frames_at s h) inside) _ absent)
+    rescue_without_a_licence s h point fault inside (and_right (legal_inside (enter s h point) h (frames_at s h) inside) _ absent)
 
 pub rescue_of_an_illegal_inside : (s : State) (h : ℕ) (point : PointRef) (fault : FaultAt) (inside : List Entry)
     → legal_inside (enter s h point) h (frames_at s h) inside ≡ false → legal s (v.Rescued h point fault inside) ≡ false
 rescue_of_an_illegal_inside s h point fault inside illegal =
-    rescue_without_a_licence s h point fault inside (and-left_false _ (ends_in (state_after (enter s h point) inside) h fault (frames_at s h)) illegal)
+    rescue_without_a_licence s h point fault inside (and_left _ (ends_in (state_after (enter s h point) inside) h fault (frames_at s h)) illegal)
 
 -- one that doesn't begin at an arrival at its point
 pub rescue_without_an_arrival : (s : State) (h : ℕ) (point : PointRef) (fault : FaultAt) (inside : List Entry)
     → is_arrival point (act_of s h) ≡ false → legal s (v.Rescued h point fault inside) ≡ false
 rescue_without_an_arrival s h point fault inside absent =
     legal-Rescued s h point fault inside
-    ∙ ap (λ b. b && is_licensed s h point fault inside) (and-right_false (may_act s h) (is_arrival point (act_of s h)) absent)
+    ∙ ap (λ b. b && is_licensed s h point fault inside) (and_right (may_act s h) (is_arrival point (act_of s h)) absent)
 
 -- a rescue without a licence in the inside of another takes that one's licence too
 pub rescue_round_one_without_a_licence : (s : State) (h : ℕ) (outer inner : PointRef) (fault met : FaultAt) (before within behind : List Entry)

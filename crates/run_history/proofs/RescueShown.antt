@@ -1,10 +1,11 @@
 -- A run whose point is spent: a call is rescued with the code of its fault, and the next call of
 -- the point, which has no rescue left, ends the run.
 use Rattle.std.proofs.Common.{◌≡◌, ℕ, ◌-◌, ◌&&◌, Bool, nat_le, nat_lt, true, false, if◌then◌else◌, List, [], ◌∷◌, refl, ap, ◌∙◌, Option, Some, None, arith, pos, slice_index, slice_set, replicate}
+use Rattle.std.proofs.lemmas.Bool.{and_from}
 use Rattle.guest_words.specs.declared.act.Act.TheVariants as act
 use Rattle.guest_words.specs.declared.ending.Ending.TheVariants as ending
 use Rattle.guest_words.specs.declared.fault.Fault.{Fault as FaultAt}
-use Rattle.guest_words.specs.declared.fault.FaultName.TheVariants.{LoadRights}
+use Rattle.guest_words.specs.declared.fault.FaultName.TheVariants.{Breakpoint, LoadRights}
 use Rattle.guest_words.specs.declared.hart.Frame.{Frame}
 use Rattle.guest_words.specs.declared.hart.Hart.{Hart}
 use Rattle.guest_words.specs.declared.image.Cell.{Cell}
@@ -30,10 +31,10 @@ use Rattle.run_history.specs.After.{after, rescued_from}
 use Rattle.run_history.specs.Built.{is_built, is_built_inst}
 use Rattle.run_history.specs.Legal.{ends_in, is_arrival, is_licensed, legal, may_act}
 use Rattle.run_history.specs.Run.{IsRun, is_run}
-use Rattle.run_history.proofs.Ands.{and_both}
 use Rattle.run_history.proofs.Entries.{after-Ran, legal-Fault, legal-Ran}
 use Rattle.run_history.proofs.Fetches.{HasCells, bytes_at-cells, each_has-cells, fetched_act-word, inst_at-word}
 use Rattle.run_history.proofs.Insides.{after-Rescued, legal-Rescued}
+use Rattle.run_history.proofs.RefusedRescues.{no_licence-for_another_name, no_licence-for_another_place, no_licence-with_an_illegal_entry, rescue_of_an_illegal_inside, rescue_without_a_fault, rescue_without_an_arrival}
 use Rattle.run_history.proofs.RunSteps.{can_run-none, can_run-ordinary, ran-none, ran-ordinary}
 
 -- 0x10000 `jal x1, 0x10010`; 0x10004 `jal x1, 0x10010`; 0x10008 and 0x1000c `addi x0, x0, 0`;
@@ -185,10 +186,10 @@ falls = ap (in_state in_call 0) (load_act 0x10004 0 false)
 
 -- the call, with nothing before its fault, is licensed
 licensed : is_licensed (at_point 1) 0 point fault [] ≡ true
-licensed = ap (λ s. ends_in s 0 fault 0) enters ∙ and_both _ _ built_call (ap (is_fault LoadRights) falls)
+licensed = ap (λ s. ends_in s 0 fault 0) enters ∙ and_from _ _ built_call (ap (is_fault LoadRights) falls)
 
 legal_call : legal (at_point 1) (v.Rescued 0 point fault []) ≡ true
-legal_call = legal-Rescued (at_point 1) 0 point fault [] ∙ and_both _ _ (and_both _ _ may_arrive (ap (is_arrival point) arrives)) licensed
+legal_call = legal-Rescued (at_point 1) 0 point fault [] ∙ and_from _ _ (and_from _ _ may_arrive (ap (is_arrival point) arrives)) licensed
 
 -- after it the call has returned the code of its fault, the point has no rescue left, and nothing
 -- else of the call is left but its steps
@@ -224,7 +225,39 @@ after_second = after-Ran (back 1) 0 1 ∙ ran-ordinary (back 1) (at_spent 1) 0 0
 -- the whole history is a run
 pub spent_point-is_a_run : IsRun (at_start 0) (Ran 0 1 ∷ v.Rescued 0 point fault [] ∷ Ran 0 1 ∷ Ended (ending.Fault 0 fault) ∷ [])
 spent_point-is_a_run =
-    and_both _ _ first_jump (ap (λ s. is_run s (v.Rescued 0 point fault [] ∷ Ran 0 1 ∷ Ended (ending.Fault 0 fault) ∷ [])) after_first
-    ∙ and_both _ _ legal_call (ap (λ s. is_run s (Ran 0 1 ∷ Ended (ending.Fault 0 fault) ∷ [])) code_by_fault_name-returns
-    ∙ and_both _ _ second_jump (ap (λ s. is_run s (Ended (ending.Fault 0 fault) ∷ [])) after_second
-    ∙ and_both _ _ (legal-Fault (at_spent 2) 0 0x10010 LoadRights built_spent falls_spent refl refl) refl)))
+    and_from _ _ first_jump (ap (λ s. is_run s (v.Rescued 0 point fault [] ∷ Ran 0 1 ∷ Ended (ending.Fault 0 fault) ∷ [])) after_first
+    ∙ and_from _ _ legal_call (ap (λ s. is_run s (Ran 0 1 ∷ Ended (ending.Fault 0 fault) ∷ [])) code_by_fault_name-returns
+    ∙ and_from _ _ second_jump (ap (λ s. is_run s (Ended (ending.Fault 0 fault) ∷ [])) after_second
+    ∙ and_from _ _ (legal-Fault (at_spent 2) 0 0x10010 LoadRights built_spent falls_spent refl refl) refl)))
+
+-- at the spent point there is no call to rescue
+pub spent_point-is_not_entered : legal (at_spent 2) (v.Rescued 0 point fault []) ≡ false
+spent_point-is_not_entered = rescue_without_an_arrival (at_spent 2) 0 point fault [] (ap (is_arrival point) falls_spent)
+
+-- the first call isn't rescued for another fault, nor for one elsewhere, nor with an ending inside
+abbrev broken : FaultAt
+broken = record { name = Breakpoint; pc = 0x10010 }
+
+abbrev elsewhere : FaultAt
+elsewhere = record { name = LoadRights; pc = 0x10014 }
+
+pub another_fault-is_not_rescued : legal (at_point 1) (v.Rescued 0 point broken []) ≡ false
+another_fault-is_not_rescued =
+    rescue_without_a_fault (at_point 1) 0 point broken []
+    (ap (λ s. ends_in s 0 broken 0) enters ∙ no_licence-for_another_name in_call LoadRights 0 broken 0 falls refl)
+
+pub fault_elsewhere-is_not_rescued : legal (at_point 1) (v.Rescued 0 point elsewhere []) ≡ false
+fault_elsewhere-is_not_rescued =
+    rescue_without_a_fault (at_point 1) 0 point elsewhere []
+    (ap (λ s. ends_in s 0 elsewhere 0) enters ∙ no_licence-for_another_place in_call 0 elsewhere 0 refl)
+
+pub inside_with_an_ending-is_not_rescued : legal (at_point 1) (v.Rescued 0 point fault (Ended ending.Stuck ∷ [])) ≡ false
+inside_with_an_ending-is_not_rescued = rescue_of_an_illegal_inside (at_point 1) 0 point fault (Ended ending.Stuck ∷ []) refl
+
+-- nor is one whose inside has a rescue of an act that isn't one
+pub inside_with_an_unlicensed_rescue-is_not_rescued : legal (at_point 1) (v.Rescued 0 point fault (v.Rescued 0 point fault [] ∷ [])) ≡ false
+inside_with_an_unlicensed_rescue-is_not_rescued =
+    rescue_of_an_illegal_inside (at_point 1) 0 point fault (v.Rescued 0 point fault [] ∷ [])
+    (no_licence-with_an_illegal_entry (enter (at_point 1) 0 point) 0 0 (v.Rescued 0 point fault []) []
+    (rescue_without_an_arrival (enter (at_point 1) 0 point) 0 point fault []
+    (ap (λ s. is_arrival point (act_of s 0)) enters ∙ ap (is_arrival point) falls)))

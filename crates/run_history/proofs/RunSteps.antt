@@ -1,5 +1,6 @@
 -- One act more of a run, by the act of the hart.
 use Rattle.std.proofs.Common.{◌≡◌, ℕ, zero, suc, ◌+◌, ◌<◌, ◌≤◌, Bool, true, false, not, ◌&&◌, refl, ap, sym, ◌∙◌, arith, nat_eq, inl, inr}
+use Rattle.std.proofs.lemmas.Bool.{and_from}
 use Rattle.std.proofs.lemmas.Bool.Decides.{eqb_tells}
 use Rattle.guest_words.specs.Act.{StateAct, Ordinary, Fault, Request, Arrival, End, Absent, act_of}
 use Rattle.guest_words.specs.Endings.{is_budget_spent}
@@ -7,7 +8,7 @@ use Rattle.guest_words.specs.State.{State}
 use Rattle.run_history.specs.After.{counted, moved, next, ran}
 use Rattle.run_history.specs.Built.{is_built}
 use Rattle.run_history.specs.Legal.{can_go, can_run, is_ordinary, is_ready_at}
-use Rattle.run_history.proofs.Ands.{and_both, and_left, and_right}
+use Rattle.run_history.proofs.Ands.{and_left, and_right}
 
 pub next-ordinary : (s t : State) (h : ℕ) → act_of s h ≡ Ordinary t → next s h ≡ counted s t
 unfolding next
@@ -30,7 +31,7 @@ pub can_run-ordinary : (s t : State) (h n : ℕ) → is_budget_spent s ≡ false
     → can_run (counted s t) h n ≡ true → can_run s h (suc n) ≡ true
 unfolding can_run
 can_run-ordinary s t h n fresh ready built act rest =
-    and_both _ _ (and_both _ _ (and_both _ _ (and_both _ _ (ap not fresh) ready) built) (ap is_ordinary act)) (ap (λ u. can_run u h n) (next-ordinary s t h act) ∙ rest)
+    and_from _ _ (and_from _ _ (and_from _ _ (and_from _ _ (ap not fresh) ready) built) (ap is_ordinary act)) (ap (λ u. can_run u h n) (next-ordinary s t h act) ∙ rest)
 
 pub ran-ordinary : (s t : State) (h n : ℕ) → act_of s h ≡ Ordinary t → ran s h (suc n) ≡ ran (counted s t) h n
 unfolding ran
@@ -49,7 +50,7 @@ can_run-last : (s : State) (h n : ℕ) → can_run s h n ≡ true → can_go (ra
 unfolding can_run ran
 can_run-last s h zero so_far goes = ap (λ b. b && true) goes
 can_run-last s h (suc n) so_far goes =
-    and_both (can_go s h) (can_run (next s h) h (suc n)) (and_left (can_go s h) (can_run (next s h) h n) so_far)
+    and_from (can_go s h) (can_run (next s h) h (suc n)) (and_left (can_go s h) (can_run (next s h) h n) so_far)
     (can_run-last (next s h) h n (and_right (can_go s h) (can_run (next s h) h n) so_far) goes)
 
 pub can_run-more : (s : State) (h n : ℕ) → can_run s h n ≡ true → can_go (ran s h n) h ≡ true → can_run s h (n + 1) ≡ true

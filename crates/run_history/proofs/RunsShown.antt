@@ -1,5 +1,6 @@
 -- The smallest program's history is a run: two instructions, and an exit with 7.
 use Rattle.std.proofs.Common.{◌≡◌, ℕ, ◌-◌, ◌%◌, ◌==◌, ◌&&◌, nat_le, nat_lt, true, false, if◌then◌else◌, List, [], ◌∷◌, refl, ap, ◌∙◌, Option, Some, None, arith, slice_index, slice_set, replicate}
+use Rattle.std.proofs.lemmas.Bool.{and_from}
 use Rattle.guest_words.specs.declared.act.Act.TheVariants.{Next, Call}
 use Rattle.guest_words.specs.declared.call.Request.TheVariants.{Exit as Exiting}
 use Rattle.guest_words.specs.declared.ending.Ending.TheVariants.{Exit}
@@ -21,7 +22,6 @@ use Rattle.run_history.specs.After.{after}
 use Rattle.run_history.specs.Built.{is_built, is_built_at, is_built_inst}
 use Rattle.run_history.specs.Legal.{can_run}
 use Rattle.run_history.specs.Run.{IsRun, is_run}
-use Rattle.run_history.proofs.Ands.{and_both}
 use Rattle.run_history.proofs.Entries.{legal-Exit, legal-Ran}
 use Rattle.run_history.proofs.Fetches.{HasCells, bytes_at-cells, each_has-cells, fetched_act-word, inst_at-word}
 use Rattle.run_history.proofs.RunSteps.{can_run-none, can_run-ordinary, ran-none, ran-ordinary}
@@ -162,6 +162,6 @@ can_run_two =
 -- the history of the smallest program: two instructions, and an exit with 7
 pub smallest_program-is_a_run : IsRun (state_with h0 0) (Ran 0 2 ∷ Ended (Exit 0 7) ∷ [])
 smallest_program-is_a_run =
-    and_both _ _ (legal-Ran (state_with h0 0) 0 2 (built0 0) (omega arith) can_run_two)
+    and_from _ _ (legal-Ran (state_with h0 0) 0 2 (built0 0) (omega arith) can_run_two)
     (ap (λ s. is_run s (Ended (Exit 0 7) ∷ [])) ran_two
-    ∙ and_both _ _ (legal-Exit (state_with h2 2) 0 7 (built2 2) (does2 2)) refl)
+    ∙ and_from _ _ (legal-Exit (state_with h2 2) 0 7 (built2 2) (does2 2)) refl)

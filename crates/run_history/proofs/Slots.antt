@@ -81,3 +81,7 @@ changed-other f h slots k apart = by (slice_get slots h)
     by : (o : Option Slot) → slice_get (changed_by f h slots o) k ≡ slice_get slots k
     by None = refl
     by (Some slot) = set_other slots h (f slot) k apart
+
+-- the slots behind the next one
+pub drop_next : (h : ℕ) (x : Slot) (xs : List Slot) → drop (suc h + 1) (x ∷ xs) ≡ drop (h + 1) xs
+drop_next h x xs = let next : suc h + 1 ≡ suc (h + 1) = omega arith in ap (λ n. drop n (x ∷ xs)) next

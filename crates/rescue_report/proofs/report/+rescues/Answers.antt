@@ -10,7 +10,7 @@ put_entry-returns-in-Rescued t c =
     record {
       ok =
           subst (λ text. OnOk c.put_rescue.result (string_bytes c.put_rescue.new.text ≡ string_bytes c.args.text.now ++ text))
-          (ap (λ xs. rescued_lines r.hart r.point r.fault xs c.args.depth) c.as_slice.ensures
-          ∙ sym (ap (λ e. rescue_lines e c.args.depth) r.is ∙ rescue_lines-Rescued r.hart r.point r.fault r.inside c.args.depth))
+          (ap (λ xs. rescued_lines c.args.points.now r.hart r.point r.fault xs c.args.depth) c.as_slice.ensures
+          ∙ sym (ap (λ e. rescue_lines c.args.points.now e c.args.depth) r.is ∙ rescue_lines-Rescued c.args.points.now r.hart r.point r.fault r.inside c.args.depth))
           c.put_rescue.ensures.ok;
     }

@@ -1,7 +1,7 @@
 use Rattle.std.proofs.Common.{◌≡◌, ◌+◌, ap, sym, ◌∙◌, subst, length, arith}
 use Rattle.std.specs.Prelude.{OnOk}
-use Rattle.plain_machine.specs.Counts.{steps_of, steps_of_all, records_of, records_of_all}
-use Rattle.plain_machine.proofs.Insides.{steps_of-Rescued, records_of-Rescued}
+use Rattle.run_history.specs.Counts.{steps_of, steps_of_all, records_of, records_of_all}
+use Rattle.run_history.proofs.Insides.{steps_of-Rescued, records_of-Rescued}
 use Rattle.rescue_report.specs.Rescues.{rescues_of, rescues_of_all}
 use Rattle.rescue_report.proofs.Insides.{rescues_of-Rescued}
 use Rattle.rescue_report.proofs.counts.Counts.+counts.Goals as goal

@@ -1,5 +1,5 @@
 use Rattle.std.proofs.Common.{◌≡◌, ◌+◌, drop, length}
-use Rattle.plain_machine.specs.Counts.{steps_of_all, records_of_all}
+use Rattle.run_history.specs.Counts.{steps_of_all, records_of_all}
 use Rattle.rescue_report.specs.Rescues.{rescues_of_all}
 use Rattle.rescue_report.proofs.counts.Counts.+counts.Given as goal
 
