@@ -1,5 +1,5 @@
 -- Calls that no other hart has a part in and that change no pages: what they reply.
-use Rattle.std.proofs.Common.{◌≡◌, ℕ, Bool, true, false, not, ◌==◌, if◌then◌else◌, Option, None, refl}
+use Rattle.std.proofs.Common.{◌≡◌, ℕ, Bool, true, false, not, ◌==◌, if◌then◌else◌, None, refl}
 use Rattle.guest_words.specs.declared.call.Facts.{Facts}
 use Rattle.guest_words.specs.declared.call.Reply.{Reply}
 use Rattle.guest_words.specs.declared.call.Request.{Request as Call}

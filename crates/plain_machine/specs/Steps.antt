@@ -1,5 +1,5 @@
 -- What holds of the acts that the machine has.
-use Rattle.std.specs.Prelude.{ℕ, ◌+◌, ◌≤◌, ◌^◌, Option, Some, None}
+use Rattle.std.specs.Prelude.{◌+◌, ◌≤◌, ◌^◌, Option, Some, None}
 use Rattle.guest_words.specs.declared.act.Write.{Write}
 use Rattle.guest_words.specs.declared.act.Act.{Act}
 use Rattle.guest_words.specs.declared.act.Act.TheVariants as act

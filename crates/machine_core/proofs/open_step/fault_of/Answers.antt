@@ -1,4 +1,4 @@
-use Rattle.std.proofs.Common.{ap, sym, ◌∙◌}
+use Rattle.std.proofs.Common.{sym, ◌∙◌}
 use Rattle.run_history.proofs.Faulting.{no_fault}
 use Rattle.machine_core.proofs.open_step.fault_of.Goals as goal
 

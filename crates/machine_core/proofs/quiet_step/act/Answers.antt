@@ -1,7 +1,7 @@
-use Rattle.std.proofs.Common.{◌≡◌, true, ap, sym, ◌∙◌, subst}
-use Rattle.guest_words.specs.Act.{Absent, End, Fault, Request}
+use Rattle.std.proofs.Common.{sym, ◌∙◌, subst}
+use Rattle.guest_words.specs.Act.{End, Fault, Request}
 use Rattle.run_history.proofs.Entries.{legal-Exit, legal-Fault, may}
-use Rattle.plain_machine.specs.Seen.{named, seen, IsServableIf}
+use Rattle.plain_machine.specs.Seen.{seen}
 use Rattle.plain_machine.proofs.SeenActs.{seen-act}
 use Rattle.machine_core.specs.declared.stepped.Stepped.{Stepped}
 use Rattle.machine_core.specs.QuietSteps.{Stands}

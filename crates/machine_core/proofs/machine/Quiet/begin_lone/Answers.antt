@@ -6,7 +6,7 @@ use Rattle.machine_core.specs.Machine.{IsActive, Machine, Opened}
 use Rattle.machine_core.specs.QuietSteps.{HasArrived, stepped_of}
 use Rattle.machine_core.specs.Parts.{machine_of}
 use Rattle.plain_machine.specs.Seen.{seen}
-use Rattle.guest_words.specs.Act.{Absent, Arrival}
+use Rattle.guest_words.specs.Act.{Arrival}
 use Rattle.plain_machine.proofs.SeenActs.{seen-act}
 use Rattle.machine_core.proofs.NamedActs.{named-Arrival}
 use Rattle.run_history.specs.Ahead.{ahead}
