@@ -2,3 +2,4 @@ pub mod Reading
 pub mod RuleLists
 pub mod Tables
 pub mod Results
+pub mod FilesShown

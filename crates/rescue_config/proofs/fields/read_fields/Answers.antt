@@ -1,7 +1,6 @@
-use Rattle.std.proofs.Common.{◌≡◌, ◌∷◌, ◌++◌, rules, not, Option, None}
-use Rattle.guest_words.specs.Rules.{Rule, rule}
+use Rattle.std.proofs.Common.{◌≡◌, ◌∷◌, ◌++◌, rules, not, None}
+use Rattle.guest_words.specs.Rules.{rule}
 use Rattle.toml.specs.View.{table_view}
-use Rattle.rescue_config.specs.declared.point_fault.PointFault.{PointFault}
 use Rattle.rescue_config.specs.declared.point_fault.PointFault.TheVariants.{UnknownKey}
 use Rattle.rescue_config.specs.Document.{first_at_point}
 use Rattle.rescue_config.specs.Fields.{is_point_key, has_only}
