@@ -2,14 +2,14 @@ ghost use Rattle.std.specs.Prelude.{◌≡◌, ◌⊎◌};
 ghost use Rattle.guest_words.specs.Effects.{class_of, amo_of};
 ghost use Rattle.guest_words.specs.Word;
 
-use guest_words::{Class, Op};
+use guest_words::{Class, Op, Width};
 use rv_word::{low_32, signed, signed_32, sum, word_of};
 
 /// What an atomic instruction stores, where memory has `old` and rs2 is `operand`. Of a row on
 /// words of 32 bits it is below 2^32, whatever the high bits are.
 #[inline(always)]
 pub fn amo(op: Op, old: u64, operand: u64) -> u64
-    requires { (class_of op ≡ Class.Atomic 4) ⊎ (class_of op ≡ Class.Atomic 8) }
+    requires { (class_of op ≡ Class.Atomic Width.Four) ⊎ (class_of op ≡ Class.Atomic Width.Eight) }
     ensures value { result ≡ amo_of op old operand }
 {
     match op {

@@ -1,16 +1,15 @@
 ghost use Rattle.std.specs.Prelude.{◌≡◌};
 ghost use Rattle.guest_words.specs.Harts.{reaches, touched, unreserved, holds};
 
-use guest_words::{Hart, Reserved};
+use guest_words::{Hart, Reserved, Width};
 
-/// Whether the hart's reservation is for just this address and this width in bytes. Takes no
-/// memory.
+/// Whether the hart's reservation is for just this address and this width. Takes no memory.
 #[inline]
-pub fn holds(hart: &Hart, address: u64, width: u8) -> bool
+pub fn holds(hart: &Hart, address: u64, width: Width) -> bool
     ensures value { result ≡ holds hart.now address width }
 {
     match hart.reservation {
-        Some(reserved) => reserved.address == address && reserved.width == width,
+        Some(reserved) => { reserved.address == address && reserved.width.bytes() == width.bytes() }
         None => false,
     }
 }
@@ -39,7 +38,11 @@ pub(crate) fn release(hart: &mut Hart)
 fn reaches(reserved: &Reserved, address: u64, size: u64) -> bool
     ensures value { result ≡ reaches reserved.now address size }
 {
+    let Reserved {
+        address: from,
+        width,
+    } = *reserved;
     let end = u128::from(address) + u128::from(size);
-    let reserved_end = u128::from(reserved.address) + u128::from(reserved.width);
-    size > 0 && u128::from(reserved.address) < end && u128::from(address) < reserved_end
+    let reserved_end = u128::from(from) + u128::from(width.bytes());
+    size > 0 && u128::from(from) < end && u128::from(address) < reserved_end
 }

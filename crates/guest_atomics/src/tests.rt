@@ -2,7 +2,7 @@ ghost use Rattle.std.specs.Prelude.{◌≡◌, ◌<◌, length, slice_get, IfSom
 ghost use Rattle.guest_words.specs.Harts.{holds};
 
 use crate::{Harts, amo, holds};
-use guest_words::{Class, Hart, HartState, MemoryWant, Op, Reserved};
+use guest_words::{Class, Hart, HartState, MemoryWant, Op, Reserved, Width};
 use std::alloc::Global;
 use std::test::Fail;
 
@@ -36,7 +36,9 @@ fn stored(op: Op, case: usize) -> Option<u64>
     requires { case < 2 }
 {
     match op.class() {
-        Class::Atomic { width: 4 | 8 } => Some(amo(op, OLDS[case], OPERANDS[case])),
+        Class::Atomic {
+            width: Width::Four | Width::Eight,
+        } => Some(amo(op, OLDS[case], OPERANDS[case])),
         _ => None,
     }
 }
@@ -75,11 +77,11 @@ fn two_harts(alloc: Global) -> Result<Harts, MemoryWant>
 /// LR.W of the hart in slot 0.
 fn reserve(harts: &mut Harts)
     requires { 0 < length harts.old }
-    ensures { IfSome (slice_get harts.new 0) (λ hart. IsTrue (holds hart WORD 4)) }
+    ensures { IfSome (slice_get harts.new 0) (λ hart. IsTrue (holds hart WORD Width.Four)) }
 {
     harts.hart_mut(0).reservation = Some(Reserved {
         address: WORD,
-        width: 4,
+        width: Width::Four,
     });
 }
 
@@ -91,7 +93,7 @@ fn reserved(alloc: Global) -> Result<Harts, MemoryWant> {
 }
 
 /// Whether an SC of the hart in slot 0 would store.
-fn is_reserved(harts: &Harts, width: u8) -> bool {
+fn is_reserved(harts: &Harts, width: Width) -> bool {
     match harts.items() {
         [first, ..] => holds(first, WORD, width),
         [] => false,
@@ -101,11 +103,11 @@ fn is_reserved(harts: &Harts, width: u8) -> bool {
 #[test]
 fn reservations(rt: HostRuntime) -> Result<(), Fail> {
     let mut harts = reserved(rt.alloc())?;
-    assert!(rt; is_reserved(&harts, 4) && !is_reserved(&harts, 8));
+    assert!(rt; is_reserved(&harts, Width::Four) && !is_reserved(&harts, Width::Eight));
     harts.touched(WORD + 4, 8);
-    assert!(rt; is_reserved(&harts, 4));
+    assert!(rt; is_reserved(&harts, Width::Four));
     harts.touched(WORD + 3, 1);
-    assert!(rt; !is_reserved(&harts, 4));
+    assert!(rt; !is_reserved(&harts, Width::Four));
     Ok(())
 }
 
@@ -114,6 +116,6 @@ fn entering_ends_reservations(rt: HostRuntime) -> Result<(), Fail> {
     let mut harts = reserved(rt.alloc())?;
     let copy = harts.copy(rt.alloc())?;
     harts.clear_all();
-    assert!(rt; is_reserved(&copy, 4) && !is_reserved(&harts, 4));
+    assert!(rt; is_reserved(&copy, Width::Four) && !is_reserved(&harts, Width::Four));
     Ok(())
 }
