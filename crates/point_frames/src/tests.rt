@@ -1,5 +1,5 @@
 use crate::{closed_after, opened};
-use guest_words::{Hart, HartState, PointRef, Ret};
+use guest_words::{Hart, HartState, PointRef};
 
 fn hart_at(pc: u64, ra: u64, sp: u64) -> Hart {
     let mut regs = [0; 32];
@@ -16,15 +16,9 @@ fn hart_at(pc: u64, ra: u64, sp: u64) -> Hart {
     }
 }
 
-const OUTER: PointRef = PointRef {
-    entry: 0x10010,
-    ret: Ret::Code(0xffff_ffff_ffff_ffff),
-};
+const OUTER: PointRef = PointRef { entry: 0x10010 };
 
-const INNER: PointRef = PointRef {
-    entry: 0x10014,
-    ret: Ret::Code(0xffff_ffff_ffff_fffe),
-};
+const INNER: PointRef = PointRef { entry: 0x10014 };
 
 // A point jumps to another without a link: both frames have one return address, and the return of
 // the inner call closes both.
