@@ -1,10 +1,10 @@
 ghost use Rattle.std.specs.Prelude.{◌≡◌, ◌+◌, ◌*◌, ◌%◌, ◌-◌, ◌<◌, ◌^◌, ◌&&◌, length};
-ghost use Rattle.std.specs.Prelude.{IfSome, IsFalse, IsSome, IsTrue, OnErr, OnOk};
+ghost use Rattle.std.specs.Prelude.{IfNone, IfSome, IsFalse, IsSome, IsTrue, OnErr, OnOk};
 ghost use Rattle.std.specs.FinMap as map;
 ghost use Rattle.guest_words.specs.CallChanges.{free_place, mapped_pages};
 ghost use Rattle.guest_words.specs.Space.{with_zeros, without};
 ghost use Rattle.guest_pages.specs.Paged.{page_at, with_page};
-ghost use Rattle.guest_pages.specs.Stretch.{IsFree, IsPageOf, IsPlace};
+ghost use Rattle.guest_pages.specs.Stretch.{HasNoPageFrom, IsFree, IsNextPage, IsPageOf, IsPlace};
 ghost use Rattle.guest_memory.specs.Text.{HasNoText, SameText};
 
 use crate::memory::Memory;
@@ -80,6 +80,14 @@ impl Memory {
             → SameText self.old.space self.new.space }
     {
         self.pages.drop_pages(from, count);
+    }
+
+    /// The least address of a page that is at least an address; None exactly where there is none.
+    pub fn page_from(&self, address: u64) -> Option<u64>
+        ensures found { IfSome result (IsNextPage self.now.space address) }
+        ensures none { IfNone result (HasNoPageFrom self.now.space address) }
+    {
+        self.pages.pages_from(address)
     }
 
     /// How many pages of the area of mapped pages are there.

@@ -1,14 +1,14 @@
-ghost use Rattle.std.specs.Prelude.{◌≡◌};
-ghost use Rattle.undo_log.specs.Undo.{undone};
+ghost use Rattle.std.specs.Prelude.{◌≡◌, ◌≤◌};
+ghost use Rattle.undo_log.specs.Undo.{undone, gone_in};
 
 use checkpoints::Checkpoint;
 use futex_table::Queue;
 use guest_atomics::Harts;
 use undo_log::{Log, Restore};
 
-/// Puts back what a frame's entry found: memory by the notes made since, the harts and the waiting
-/// list as they were kept. Answers the next tid that was kept. Takes no memory and is never
-/// refused.
+/// Puts back what a frame's entry found: memory by the notes made since, with its pages and its
+/// break, the harts and the waiting list as they were kept. Answers the next tid that was kept. Takes
+/// no memory and is never refused.
 pub fn roll_back<M: Restore>(
     memory: &mut M,
     harts: &mut Harts,
@@ -16,7 +16,8 @@ pub fn roll_back<M: Restore>(
     kept: Checkpoint,
     log: Log,
 ) -> u32
-    ensures memory { memory.new ≡ undone M.put log.notes memory.old }
+    requires room { gone_in log.notes ≤ M.spare memory.old }
+    ensures memory { memory.new ≡ undone M.put_back log.notes memory.old }
     ensures harts { harts.new ≡ kept.harts }
     ensures waiting { queue.new ≡ kept.queue }
     ensures next_tid { result ≡ kept.next_tid }

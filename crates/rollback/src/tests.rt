@@ -2,25 +2,38 @@ use crate::{force_return, roll_back};
 use checkpoints::Checkpoint;
 use futex_table::Queue;
 use guest_atomics::Harts;
-use guest_words::{Frame, Hart, HartState, MemoryWant, PointRef, Ret, Waiter};
+use guest_words::{Frame, Hart, HartState, MemoryWant, Page, PointRef, Ret, Waiter, Width};
 use std::alloc::Global;
 use std::test::Fail;
 use undo_log::{Log, Restore};
 
 const PLACE: u64 = 0x20000;
 
-// A byte, whatever the address.
+// A byte, whatever the address. Pages and breaks are passed over.
 #[derive(Drop)]
 struct Byte {
     value: u64,
 }
 
 impl Restore for Byte {
-    ghost put = { λ byte address width value. record { value = value } };
+    ghost use Rattle.undo_log.specs.declared.note.Note.TheVariants as note;
 
-    fn put_bytes(&mut self, _address: u64, _width: u8, value: u64) {
-        self.value = value;
+    ghost put_back = { λ byte one. elim one [
+      | note.Bytes address width old ↦ record { value = old }
+      | _ ↦ byte
+    ] };
+
+    ghost spare = { λ byte. 1 };
+
+    fn put_bytes(&mut self, _address: u64, _width: Width, old: u64) {
+        self.value = old;
     }
+
+    fn drop_pages(&mut self, _from: u64, _count: u64) {}
+
+    fn put_page(&mut self, _page: Page) {}
+
+    fn put_break(&mut self, _old: u64) {}
 }
 
 fn hart(state: HartState, tid: u32) -> Hart {
@@ -61,7 +74,7 @@ fn siblings_taken_back(rt: HostRuntime) -> Result<(), Fail> {
     let mut queue = Queue::new();
     let mut byte = Byte { value: 22 };
     let mut log = Log::new(rt.alloc());
-    log.note_bytes(PLACE, 1, 11)?;
+    log.note_bytes(PLACE, Width::One, 11)?;
     let next_tid = roll_back(&mut byte, &mut harts, &mut queue, kept, log);
     assert!(rt; next_tid == 3 && byte.value == 11);
     assert!(rt; harts.items() == entry.items());
@@ -76,25 +89,20 @@ fn siblings_taken_back(rt: HostRuntime) -> Result<(), Fail> {
     Ok(())
 }
 
-const fn frame(ret: Ret) -> Frame {
-    Frame {
-        point: PointRef {
-            entry: 0x10018,
-            ret,
-        },
-        ra: 0x10004,
-        sp: 0x3f_ffff_ffc0,
-    }
-}
+const FRAME: Frame = Frame {
+    point: PointRef { entry: 0x10018 },
+    ra: 0x10004,
+    sp: 0x3f_ffff_ffc0,
+};
 
 #[test]
 fn forced_returns(rt: HostRuntime) {
     let mut failed = hart(HartState::Ready, 1);
-    force_return(&mut failed, &frame(Ret::Code(0xffff_ffff_ffff_ffff)));
+    force_return(&mut failed, &FRAME, Ret::Code(0xffff_ffff_ffff_ffff));
     assert!(rt; failed.pc == 0x10004 && !failed.arrived);
     assert!(rt; failed.regs[10] == 0xffff_ffff_ffff_ffff);
     let mut silent = hart(HartState::Ready, 1);
     silent.regs[10] = 5;
-    force_return(&mut silent, &frame(Ret::Void));
+    force_return(&mut silent, &FRAME, Ret::Void);
     assert!(rt; silent.pc == 0x10004 && silent.regs[10] == 5);
 }
