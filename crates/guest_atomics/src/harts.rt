@@ -90,8 +90,8 @@ impl Harts {
         }
     }
 
-    /// Whether no hart but, maybe, the one in a slot has a reservation; false where that isn't known
-    /// at once.
+    /// Whether no hart but, maybe, the one in a slot has a reservation; false where that isn't
+    /// known at once.
     #[inline]
     pub fn is_free_but(&self, slot: usize) -> bool
         ensures free { result ≡ true → IsFreeBut slot self.now }

@@ -69,8 +69,8 @@ impl Memory {
         self.pages.put_page(page);
     }
 
-    /// Takes away those of so many pages from an address on that are there. They are lost, and leave
-    /// no room.
+    /// Takes away those of so many pages from an address on that are there. They are lost, and
+    /// leave no room.
     pub fn unmap(&mut self, from: u64, count: u64)
         requires aligned { from % PAGE ≡ 0 }
         ensures value { self.new ≡ record self.old {

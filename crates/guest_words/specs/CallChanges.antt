@@ -62,13 +62,15 @@ abbrev pub tid_of : Option Slot → ℕ
 tid_of None = 0
 tid_of (Some slot) = slot.hart.tid
 
--- the numbers of the pages of the area of mapped pages
+-- how many pages the area of mapped pages has
 unfoldable pub area_pages : ℕ
 area_pages = (MAP_END - MAP_FROM) / PAGE
 
+-- their numbers
 unfoldable pub area : List ℕ
 area = range_with_len (MAP_FROM / PAGE) area_pages
 
+-- a page of this number is there: memory is in whole pages, so its first byte tells
 abbrev pub has_page : Space → ℕ → Bool
 has_page m page = contains_key m (PAGE * page)
 
@@ -180,7 +182,8 @@ cleared s place =
 
 abbrev pub exits : State → ℕ → ℕ → State
 exits s h code =
-    cleared (record s { slots = changed (departed code) h s.slots }) (clear_of (slice_get s.slots h))
+    cleared (record s { slots = changed (departed code) h s.slots })
+    (clear_of (slice_get s.slots h))
 
 -- clone
 
@@ -239,7 +242,8 @@ gained s from size rights =
       slots = on_each (touched from size) s.slots;
     }
 
--- so many bytes go from an address on, and end the reservations that they touch
+-- so many bytes go from an address on, those of them that are there; a reservation with a byte
+-- among them ends
 abbrev pub lost : State → ℕ → ℕ → State
 lost s from size =
     record s {
@@ -250,7 +254,7 @@ lost s from size =
 abbrev pub heap_rights : Rights
 heap_rights = record { read = true; write = true; exec = false }
 
--- the pages up to the new break are there, those from it to the old one are gone
+-- the heap's pages end at its break, so they come or go between the old break and the new one
 abbrev pub with_break : State → ℕ → State
 with_break s to =
     record (lost (gained s (page_up s.brk) (page_up to - page_up s.brk) heap_rights)

@@ -1,4 +1,5 @@
--- Rescue points: which are active, what they return, and the list of them.
+-- Rescue points: which are active, what they return, how many rescues are left to them, and the
+-- list of them.
 use Rattle.std.specs.Prelude.{ℕ, ◌≤◌, ◌-◌, ◌==◌, Bool, true, false, not, ◌&&◌, List, length, map, Option, Some, None, find, option_map, unwrap_or, slice_get, ◌≢◌, if◌then◌else◌}
 use Rattle.std.specs.List.{AllPairs, list_any}
 use Rattle.guest_words.specs.declared.point.Ret.{Ret}
@@ -26,11 +27,11 @@ abbrev pub is_active : Point → Bool
 is_active p = is_on p.kind && not (is_spent p.left)
 
 abbrev pub is_loose : Point → Bool
-is_loose p = is_kind p.kind
+is_loose p = is_loose_kind p.kind
   where
-    is_kind : Kind → Bool
-    is_kind Loose = true
-    is_kind _ = false
+    is_loose_kind : Kind → Bool
+    is_loose_kind Loose = true
+    is_loose_kind _ = false
 
 abbrev pub has_loose : List Point → Bool
 has_loose points = list_any is_loose points

@@ -75,15 +75,13 @@ with_bytes m from (byte ∷ bytes) = with_bytes (with_byte m from byte) (from + 
 abbrev pub with_number : Space → ℕ → ℕ → ℕ → Space
 with_number m from width value = with_bytes m from (low_bytes width value)
 
--- whole pages
-
--- the least multiple of a page's size that is no less
-abbrev pub page_up : ℕ → ℕ
-page_up n = (n + (PAGE - 1)) / PAGE * PAGE
-
 -- how many pages so many bytes take
 abbrev pub pages_in : ℕ → ℕ
 pages_in size = (size + (PAGE - 1)) / PAGE
+
+-- the least multiple of a page's size that is no less
+abbrev pub page_up : ℕ → ℕ
+page_up n = pages_in n * PAGE
 
 abbrev pub zero_cell : Rights → Cell
 zero_cell rights = record { byte = 0; rights = rights }

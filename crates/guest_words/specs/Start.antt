@@ -91,7 +91,7 @@ slot_of hart = record { hart = hart; frames = [] }
 abbrev pub start_slots : ℕ → ℕ → List Slot
 start_slots entry harts = slot_of (first_hart entry) ∷ replicate (harts - 1) (slot_of empty_hart)
 
--- the heap begins at the first page that no load passes
+-- the heap begins at the first page behind all loads
 abbrev pub low_break : List Load → ℕ
 low_break [] = 0
 low_break (load ∷ loads) = max (page_up (load.address + load.size)) (low_break loads)

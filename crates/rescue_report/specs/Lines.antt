@@ -19,7 +19,8 @@ line (word ∷ next ∷ words) = word ++ 32 ∷ line (next ∷ words)
 abbrev pub count_line : List ℕ → ℕ → List ℕ
 count_line name number = line (name ∷ decimal number ∷ [])
 
--- the line of a rescued call: how many rescued calls it lies in, then what was taken back
+-- the line of a rescued call: how many rescued calls it lies in; hart, point and fault; the steps
+-- and records of its inside, which stay; and what it returned
 abbrev pub rescue_line : ℕ → ℕ → PointRef → FaultAt → ℕ → ℕ → Ret → List ℕ
 rescue_line depth hart point fault steps records code = line
     (codes "rescue"

@@ -53,7 +53,8 @@ fn put_rescues(
     depth: u128,
 ) -> Result<(), MemoryWant>
     ensures ok { OnOk result
-        (string_bytes text.new ≡ string_bytes text.old ++ rescue_lines_of_all points.now entries.now depth) }
+        (string_bytes text.new
+        ≡ string_bytes text.old ++ rescue_lines_of_all points.now entries.now depth) }
 {
     for entry in entries {
         put_entry(alloc, text, points, entry, depth)?;

@@ -7,8 +7,8 @@ use guest_atomics::Harts;
 use undo_log::{Log, Restore};
 
 /// Puts back what a frame's entry found: memory by the notes made since, with its pages and its
-/// break, the harts and the waiting list as they were kept. Answers the next tid that was kept. Takes
-/// no memory and is never refused.
+/// break, the harts and the waiting list as they were kept. Answers the next tid that was kept.
+/// Takes no memory and is never refused.
 pub fn roll_back<M: Restore>(
     memory: &mut M,
     harts: &mut Harts,

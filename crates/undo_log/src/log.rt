@@ -36,8 +36,8 @@ impl Log {
         }
     }
 
-    /// Notes the low bytes of `old`, which stand at an address. With room it isn't refused, and uses
-    /// one place.
+    /// Notes the low bytes of `old`, which stand at an address. With room it isn't refused, and
+    /// uses one place.
     pub fn note_bytes(&mut self, address: u64, width: Width, old: u64) -> Result<(), MemoryWant>
         ensures ok { OnOk result
             (self.new.notes ≡ self.old.notes ++ Note.Bytes address width old ∷ []) }
