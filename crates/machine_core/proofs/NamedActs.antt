@@ -9,7 +9,8 @@ use Rattle.guest_words.specs.State.{State}
 use Rattle.run_history.specs.Built.{is_built}
 use Rattle.run_history.specs.Faults.{fault_by, fault_of, pc_at}
 use Rattle.run_history.specs.Legal.{can_go, is_alone, is_ordinary, is_ready_at, may_act}
-use Rattle.run_history.proofs.Ands.{and_both, and_left, and_right}
+use Rattle.run_history.proofs.Ands.{and_left, and_right}
+use Rattle.std.proofs.lemmas.Bool.{and_from}
 use Rattle.plain_machine.specs.declared.see.Seen.TheVariants as seen_is
 use Rattle.plain_machine.specs.Seen.{named, seen}
 use Rattle.plain_machine.proofs.SeenActs.{seen-act, tests-seen}
@@ -61,13 +62,13 @@ named-built s h a other is = (seen-act s h a other is).0
 
 pub may_when : (s : State) (h : ℕ) → s.ending ≡ None → is_budget_spent s ≡ false → is_ready_at s h ≡ true → is_alone s h ≡ true → is_built s h ≡ true → may_act s h ≡ true
 may_when s h going fresh ready alone built =
-    and_both _ _ (and_both _ _ (and_both _ _ (and_both _ _ (ap is_none going) (ap not fresh)) ready) alone) built
+    and_from _ _ (and_from _ _ (and_from _ _ (and_from _ _ (ap is_none going) (ap not fresh)) ready) alone) built
 
 -- a ready hart that is seen to make an ordinary act can go on
 pub ordinary-goes_on : (s : State) (h : ℕ) → is_budget_spent s ≡ false → is_ready_at s h ≡ true → is_ordinary (seen s h) ≡ true → can_go s h ≡ true
 ordinary-goes_on s h fresh ready is =
     let both : (is_built s h && is_ordinary (act_of s h)) ≡ true = sym (tests-seen is_ordinary s h refl) ∙ is in
-    and_both _ _ (and_both _ _ (and_both _ _ (ap not fresh) ready) (and_left _ _ both)) (and_right _ _ both)
+    and_from _ _ (and_from _ _ (and_from _ _ (ap not fresh) ready) (and_left _ _ both)) (and_right _ _ both)
 
 -- the fault of a hart is that which is seen of it
 pub fault-seen : (s : State) (h : ℕ) → fault_by (seen s h) (pc_at s h) ≡ fault_of s h
