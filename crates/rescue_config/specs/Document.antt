@@ -13,7 +13,7 @@ use Rattle.rescue_config.specs.declared.point_fault.PointFault.{PointFault}
 use Rattle.rescue_config.specs.declared.point_fault.PointFault.TheVariants.{Toml, UnknownKey, BadVersion, BadValue, TooMany}
 use Rattle.rescue_config.specs.declared.version.Version.{Version}
 use Rattle.rescue_config.specs.Fields.{is_file_key, has_only, is_other, is_table_list}
-use Rattle.rescue_config.specs.Version.{version_said, version_of}
+use Rattle.rescue_config.specs.Version.{named_version, version_of}
 use Rattle.rescue_config.specs.PointRules.{point_rules, point_of}
 
 -- the table that the bytes stand for, if they are a TOML document in UTF-8
@@ -36,7 +36,7 @@ abbrev pub file_rules : Members → List (Rule PointFault)
 file_rules file =
     let count = count_of (point_items file) in
     rule (not (has_only is_file_key file)) UnknownKey 0
-    ∷ rule (is_none (version_said file)) BadVersion 0
+    ∷ rule (is_none (named_version file)) BadVersion 0
     ∷ rule (is_other is_table_list (get_member (codes "point") file)) BadValue 0
     ∷ rule (nat_lt POINTS count) (TooMany count) 0
     ∷ []

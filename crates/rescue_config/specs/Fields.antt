@@ -15,10 +15,11 @@ use Rattle.rescue_config.specs.declared.version.Version.{Version}
 use Rattle.rescue_config.specs.Version.{has_codes, has_loose}
 use Rattle.toml.specs.Data.{Data, string, integer, array, table, Items, no_items, item, Members, no_members, member, get_member, as_str, as_table}
 
--- the keys of the whole file, and of a point
+-- the keys of the whole file
 abbrev pub is_file_key : List ℕ → Bool
 is_file_key key = bytes_eq key (codes "version") || bytes_eq key (codes "point")
 
+-- the keys of a point, and those that it may have from version 2 on
 abbrev pub is_first_key : List ℕ → Bool
 is_first_key key =
     bytes_eq key (codes "function") || bytes_eq key (codes "entry")

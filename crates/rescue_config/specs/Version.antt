@@ -11,17 +11,17 @@ version_in (integer (pos n)) =
     else (if n == 2 then Some Two else (if n == 3 then Some Three else None))
 version_in _ = None
 
--- what a file says as its version, if it is one; the first where it says nothing
-abbrev pub said : Option Data → Option Version
-said None = Some One
-said (Some value) = version_in value
+-- the version that the key has, if it is one; the first where the key is absent
+abbrev pub version_or_first : Option Data → Option Version
+version_or_first None = Some One
+version_or_first (Some value) = version_in value
 
-abbrev pub version_said : Members → Option Version
-version_said file = said (get_member (codes "version") file)
+abbrev pub named_version : Members → Option Version
+named_version file = version_or_first (get_member (codes "version") file)
 
 -- the version of a file that keeps the rules
 abbrev pub version_of : Members → Version
-version_of file = unwrap_or (version_said file) One
+version_of file = unwrap_or (named_version file) One
 
 -- a point may have codes by fault and a limit from version 2 on
 abbrev pub has_codes : Version → Bool

@@ -2,7 +2,7 @@ ghost use Rattle.std.specs.Prelude.{◌≡◌, ◌≤◌, true, length, IfOk};
 ghost use Rattle.toml.specs.View.{items_view, table_view};
 ghost use Rattle.rescue_config.specs.Document.{document_of, first_at_file, file_rules, point_items};
 ghost use Rattle.rescue_config.specs.Fields.{are_tables};
-ghost use Rattle.rescue_config.specs.Version.{version_said, version_of};
+ghost use Rattle.rescue_config.specs.Version.{named_version, version_of};
 ghost use Rattle.rescue_config.specs.Tells.{Tells, unparsed};
 
 use crate::member::{has_only_file_keys, member};
@@ -44,7 +44,7 @@ fn point_values(file: &Table) -> &[Value]
 
 /// The version that the file says, if it is one: the first where it says none.
 fn version_in(file: &Table) -> Option<Version>
-    ensures { result ≡ version_said (table_view file.now) }
+    ensures { result ≡ named_version (table_view file.now) }
 {
     match member(file, "version") {
         None => Some(Version::One),
