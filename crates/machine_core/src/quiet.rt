@@ -170,21 +170,24 @@ impl<K: Origin, S: Source, T: Sink, P: Port> Quiet<K, S, T, P> {
         self.core.as_mut().abandoned = true;
     }
 
-    /// What has happened, and the devices.
-    pub fn into_parts(self) -> (History, Devices<S, T, P>)
+    /// What has happened, the points at its end, each with what is left of its rescues, and the
+    /// devices. Takes no memory.
+    pub fn into_parts(self) -> (History, Points, Devices<S, T, P>)
         ensures history { result.0.entries ≡ self.history }
-        ensures devices { told S.end T.end P.end result.1 ≡ self.devices }
+        ensures points { result.1 ≡ self.state.points }
+        ensures devices { told S.end T.end P.end result.2 ≡ self.devices }
         ensures run { IsRun K.state result.0.entries }
         ensures reaches { self.state ≡ state_after K.state result.0.entries }
-        ensures matches { DevicesMatch K.devices (told S.end T.end P.end result.1) 0
+        ensures matches { DevicesMatch K.devices (told S.end T.end P.end result.2) 0
             (records_of_all result.0.entries) }
     {
         let Quiet { core, origin: _ } = self;
         let Core {
             history,
+            state,
             devices,
             ..
         } = Box::into_inner(core);
-        (history, devices)
+        (history, state.into_points(), devices)
     }
 }

@@ -1,11 +1,9 @@
-//! The program: real files and streams round the top call.
+//! The program: the top call by the words of the command line.
 #![tactic(auto)]
 
-mod standard;
-
-use crate::standard::Standard;
-use edge_ports::{FileShelf, StdSink, StdSource};
-use rescue_run::alone_top;
+use edge_ports::Standard;
+use program_words::report_to_out;
+use rescue_run::run_words;
 use std::env;
 use std::process::ExitCode;
 
@@ -19,19 +17,11 @@ fn words(rt: &HostRuntime) -> anyhow::Result<Vec<String>> {
 }
 
 fn main(rt: HostRuntime) -> anyhow::Result<ExitCode> {
-    let alloc = rt.alloc();
     let words = words(&rt)?;
-    let mut shelf = FileShelf::new(rt.clone()?);
-    let mut report = StdSink::new(Standard::Err(rt.stderr()));
-    let answer = alone_top(
-        alloc,
-        &words,
-        &mut shelf,
-        StdSource::new(rt.stdin()),
-        StdSink::new(Standard::Out(rt.stdout())),
-        StdSink::new(Standard::Err(rt.stderr())),
-        Vec::new(alloc),
-        &mut report,
-    );
-    Ok(ExitCode::from(answer.status))
+    let report = if report_to_out(&words) {
+        Standard::Out(rt.stdout())
+    } else {
+        Standard::Err(rt.stderr())
+    };
+    Ok(ExitCode::from(run_words(&rt, &words, report)?))
 }

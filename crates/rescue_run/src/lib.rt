@@ -1,18 +1,23 @@
 //! The top call: a program from its words to its status.
 #![tactic(auto)]
 
+mod answer;
 mod drive;
-mod finish;
+mod driven;
+mod files;
 mod lines;
 mod loading;
 mod open_call;
 mod outcome;
+mod prepare;
 mod put;
 mod run;
+mod run_end;
+mod start;
+mod system;
 mod top;
-mod turn;
-mod words;
 
-pub use outcome::{Outcome, Which};
-pub use top::{Answer, alone_top};
-pub use words::{Command, WordFault, read_words};
+pub use answer::Answer;
+pub use outcome::{Outcome, Unbuilt, Which};
+pub use system::run_words;
+pub use top::alone_top;

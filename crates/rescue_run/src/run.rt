@@ -1,84 +1,87 @@
-ghost use Rattle.std.specs.Prelude.{◌≡◌, length};
+ghost use Rattle.std.specs.Prelude.{◌≡◌, length, IfErr, IfOk};
 ghost use Rattle.guest_words.specs.Image.{IsLoadList};
+ghost use Rattle.edge_ports.specs.DevicesMatch.{DevicesMatch};
 ghost use Rattle.edge_ports.specs.Seen.{seen};
 ghost use Rattle.machine_core.specs.Machine.{AllOpen};
-ghost use Rattle.rescue_run.specs.Headline.{AreDevices};
-ghost use Rattle.rescue_run.specs.Runs.{begun, IsHistory};
-ghost use Rattle.rescue_run.specs.Top.{entries_of, StaySame};
+ghost use Rattle.run_history.specs.Counts.{records_of_all};
+ghost use Rattle.rescue_run.specs.Runs.{outcome_of, start_of_run, IsRunTo};
+ghost use Rattle.rescue_run.specs.Top.{AreSame};
+ghost use Rattle.rescue_run.specs.Words.{IsWithin};
 
 use crate::drive::drive;
-use crate::finish::Finish;
+use crate::run_end::RunEnd;
+use crate::start::Start;
 use edge_ports::{Devices, Port, Sink, Source};
-use guest_words::{Image, Points};
-use machine_core::{Limits, Origin, Quiet};
-use plain_machine::History;
+use guest_words::Points;
+use machine_core::{Origin, Quiet};
+use run_history::History;
 use std::alloc::Global;
 use std::marker::Brand;
 
-/// The slots for harts of a run, and its budget.
-const LIMITS: Limits = Limits {
-    harts: 8,
-    budget: 5_000_000,
-};
-
 /// What a run leaves.
 #[derive(Drop)]
-pub struct Parts<S, T, P> {
-    /// None where memory was wanting for the start.
-    pub history: Option<History>,
+pub struct Ran<S, T, P> {
+    pub history: History,
+    /// The points at its end, each with what is left of its rescues.
+    pub points: Points,
     pub devices: Devices<S, T, P>,
-    pub finish: Finish,
+    pub end: RunEnd,
 }
 
 /// A run from the state and with the devices that `K` names.
-fn branded<K: Origin, S: Source, T: Sink, P: Port>(
+fn run_from<K: Origin, S: Source, T: Sink, P: Port>(
     alloc: Global,
-    image: &Image,
-    points: &Points,
+    start: &Start,
     devices: Devices<S, T, P>,
-) -> Parts<S, T, P>
-    requires image { IsLoadList image.now.loads }
+) -> Result<Ran<S, T, P>, Devices<S, T, P>>
+    requires image { IsLoadList start.now.loaded.image.loads }
+    requires within { IsWithin start.now.limits }
     requires open { AllOpen (seen S.end T.end P.end devices) }
-    requires state { K.state
-        ≡ begun image.now points.now (length devices.ports.items) }
+    requires state { K.state ≡ start_of_run start.now (length devices.ports.items) }
     requires devices { K.devices ≡ seen S.end T.end P.end devices }
-    ensures history { IsHistory K.state (entries_of result.history) result.finish }
-    ensures kept { AreDevices K.devices (entries_of result.history)
-        (seen S.end T.end P.end result.devices) }
-    ensures same { StaySame result.history devices result.devices }
+    ensures run { IfOk result (λ ran.
+        IsRunTo K.state ran.history.entries ran.points (outcome_of ran.end)) }
+    ensures matches { IfOk result (λ ran. DevicesMatch K.devices
+        (seen S.end T.end P.end ran.devices) 0 (records_of_all ran.history.entries)) }
+    ensures same { IfErr result (AreSame devices) }
+    ensures untouched { IfErr result (λ back.
+        seen S.end T.end P.end back ≡ seen S.end T.end P.end devices) }
 {
-    match Quiet::<K, S, T, P>::start(alloc, image, points, LIMITS, devices) {
-        Err(devices) => Parts {
-            history: None,
-            devices,
-            finish: Finish::Memory,
-        },
-        Ok(machine) => {
-            let (machine, finish) = drive(machine);
-            let (history, devices) = machine.finish();
-            Parts {
-                history: Some(history),
-                devices,
-                finish,
-            }
-        }
-    }
+    let Start { loaded, limits } = start;
+    let machine = Quiet::<K, S, T, P>::start(
+        alloc,
+        &loaded.image,
+        &loaded.points,
+        *limits,
+        devices,
+    )?;
+    let (machine, end) = drive(machine);
+    let (history, points, devices) = machine.into_parts();
+    Ok(Ran {
+        history,
+        points,
+        devices,
+        end,
+    })
 }
 
-/// Runs a program until it ends, its next act isn't built, or memory is wanting.
-pub fn run_on<S: Source, T: Sink, P: Port>(
+/// Runs what was loaded until it ends, its next act isn't built, or memory is wanting. An Err has
+/// the devices as they were: memory was wanting before a machine was started.
+pub fn run<S: Source, T: Sink, P: Port>(
     alloc: Global,
-    image: &Image,
-    points: &Points,
+    start: &Start,
     devices: Devices<S, T, P>,
-) -> Parts<S, T, P>
-    requires image { IsLoadList image.now.loads }
+) -> Result<Ran<S, T, P>, Devices<S, T, P>>
+    requires image { IsLoadList start.now.loaded.image.loads }
+    requires within { IsWithin start.now.limits }
     requires open { AllOpen (seen S.end T.end P.end devices) }
-    ensures history { IsHistory (begun image.now points.now (length devices.ports.items))
-        (entries_of result.history) result.finish }
-    ensures kept { AreDevices (seen S.end T.end P.end devices) (entries_of result.history)
-        (seen S.end T.end P.end result.devices) }
-    ensures same { StaySame result.history devices result.devices }
+    ensures run { IfOk result (λ ran. IsRunTo (start_of_run start.now (length devices.ports.items))
+        ran.history.entries ran.points (outcome_of ran.end)) }
+    ensures matches { IfOk result (λ ran. DevicesMatch (seen S.end T.end P.end devices)
+        (seen S.end T.end P.end ran.devices) 0 (records_of_all ran.history.entries)) }
+    ensures same { IfErr result (AreSame devices) }
+    ensures untouched { IfErr result (λ back.
+        seen S.end T.end P.end back ≡ seen S.end T.end P.end devices) }
 {
-    branded::<Brand, S, T, P>(alloc, image, points, devices)
+    run_from::<Brand, S, T, P>(alloc, start, devices)
 }

@@ -1,151 +1,176 @@
-ghost use Rattle.std.specs.Prelude.{◌≡◌, [], ◌∷◌, false, length, None, Some, IsNone};
+ghost use Rattle.std.specs.Prelude.{◌≡◌, None, Some, length, IsNone};
 ghost use Rattle.guest_words.specs.Image.{IsLoadList};
 ghost use Rattle.edge_ports.specs.Seen.{seen};
-ghost use Rattle.rescue_run.specs.Headline.{AreDevices, Headline};
-ghost use Rattle.rescue_run.specs.Loading.{Follows};
-ghost use Rattle.rescue_run.specs.Puts.{IsPut, PutsReport, Reports};
-ghost use Rattle.rescue_run.specs.Runs.{begun};
+ghost use Rattle.machine_core.specs.Machine.{AllOpen};
+ghost use Rattle.program_words.specs.Words.{texts};
+ghost use Rattle.rescue_run.specs.Headline.{Headline};
+ghost use Rattle.rescue_run.specs.Lines.{line_of};
+ghost use Rattle.rescue_run.specs.Puts.{IsSaid, IsTold, PutsEnd};
+ghost use Rattle.rescue_run.specs.Reads.{Follows};
+ghost use Rattle.rescue_run.specs.Runs.{start_of_run};
 ghost use Rattle.rescue_run.specs.Statuses.{status_of};
-ghost use Rattle.rescue_run.specs.Top.{entries_of, told, Answers, AreSame, Runs, StaySame};
-ghost use Rattle.rescue_run.specs.Words.{asked, texts};
+ghost use Rattle.rescue_run.specs.Top.{handed, told, IsRunTold, StaySame};
+ghost use Rattle.rescue_run.specs.Words.{IsWithin};
 
-use crate::finish::Finish;
-use crate::loading::{Loaded, load_all};
-use crate::outcome::Outcome;
+use crate::answer::Answer;
+use crate::outcome::{Outcome, Unbuilt};
+use crate::prepare::prepare;
 use crate::put::{put_line, put_report};
-use crate::run::{Parts, run_on};
-use crate::words::{Command, read_words};
+use crate::run::{Ran, run};
+use crate::run_end::RunEnd;
+use crate::start::Start;
 use edge_ports::{Devices, Port, Shelf, Sink, Source};
-use guest_words::Ending;
-use plain_machine::History;
+use guest_words::Points;
+use run_history::History;
 use std::alloc::Global;
 
-/// What a command came to.
-#[derive(Drop)]
-pub struct Answer<S, T, P = Box<dyn Port + Send>> {
-    /// The exit status.
-    pub status: u8,
-    pub outcome: Outcome,
-    pub devices: Devices<S, T, P>,
-    /// What happened, where a machine was started.
-    pub history: Option<History>,
-}
-
-/// The answer of a command that no report was put for: its line is put.
-fn refuse<S, T, P, R: Sink>(
+/// The answer of a command that nothing runs for: its line is put.
+fn answer_with_line<S, T, P, R: Sink>(
     alloc: Global,
     outcome: Outcome,
-    history: Option<History>,
     devices: Devices<S, T, P>,
     report: &mut R,
 ) -> Answer<S, T, P>
+    ensures said { IsSaid outcome result.outcome }
+    ensures line { IsTold (line_of result.outcome) (R.end report.old) (R.end report.new) }
     ensures answer { result ≡ record {
-      status = status_of outcome;
-      outcome = outcome;
+      status = status_of result.outcome;
+      outcome = result.outcome;
       devices = devices;
-      history = history;
+      history = None;
+      points = None;
     } }
-    ensures line { IsPut outcome (R.end report.old) (R.end report.new) }
 {
-    put_line(alloc, report, &outcome);
+    let outcome = put_line(alloc, report, outcome);
     Answer {
         status: outcome.status(),
         outcome,
         devices,
-        history,
+        history: None,
+        points: None,
     }
 }
 
-/// The answer of a run that ended, whose report is put.
-fn finish<S, T, P, R: Sink>(
+/// Puts what a run came to: its report, where it ended, or else a line.
+fn put_end<R: Sink>(
     alloc: Global,
-    ending: Ending,
-    history: History,
+    report: &mut R,
+    history: &History,
+    points: &Points,
+    end: RunEnd,
+) -> Outcome
+    ensures puts { PutsEnd end history.now.entries points.now result (R.end report.old)
+        (R.end report.new) }
+{
+    match end {
+        RunEnd::Ended(ending) => put_report(alloc, report, history, points, ending),
+        RunEnd::Unbuilt { pc } => put_line(alloc, report, Outcome::Unbuilt(Unbuilt::Act { pc })),
+        RunEnd::Memory => put_line(alloc, report, Outcome::Memory),
+    }
+}
+
+/// Runs what was loaded.
+fn run_loaded<S: Source, T: Sink, P: Port, R: Sink>(
+    alloc: Global,
+    start: &Start,
     devices: Devices<S, T, P>,
     report: &mut R,
 ) -> Answer<S, T, P>
-    ensures exits { result.status ≡ status_of result.outcome }
-    ensures history { result.history ≡ Some history }
-    ensures devices { result.devices ≡ devices }
-    ensures puts { PutsReport ending history.entries result.outcome (R.end report.old)
-        (R.end report.new) }
+    requires image { IsLoadList start.now.loaded.image.loads }
+    requires within { IsWithin start.now.limits }
+    requires open { AllOpen (seen S.end T.end P.end devices) }
+    ensures told { IsRunTold (start_of_run start.now (length devices.ports.items))
+        (seen S.end T.end P.end devices) (R.end report.old) (R.end report.new)
+        (told S.end T.end P.end result) }
+    ensures same { StaySame result.history devices result.devices }
 {
-    let outcome = put_report(alloc, report, &history, ending);
+    match run(alloc, start, devices) {
+        Err(devices) => answer_with_line(alloc, Outcome::Memory, devices, report),
+        Ok(ran) => answer_of_run(alloc, ran, report),
+    }
+}
+
+/// The answer of a run.
+fn answer_of_run<S, T, P, R: Sink>(
+    alloc: Global,
+    ran: Ran<S, T, P>,
+    report: &mut R,
+) -> Answer<S, T, P>
+    ensures puts { PutsEnd ran.end ran.history.entries ran.points result.outcome
+        (R.end report.old) (R.end report.new) }
+    ensures answer { result ≡ record {
+      status = status_of result.outcome;
+      outcome = result.outcome;
+      devices = ran.devices;
+      history = Some ran.history;
+      points = Some ran.points;
+    } }
+{
+    let Ran {
+        history,
+        points,
+        devices,
+        end,
+    } = ran;
+    let outcome = put_end(alloc, report, &history, &points, end);
     Answer {
         status: outcome.status(),
         outcome,
         devices,
         history: Some(history),
+        points: Some(points),
     }
 }
 
-/// Runs what was loaded.
-fn run_top<S: Source, T: Sink, P: Port, R: Sink>(
-    alloc: Global,
-    loaded: &Loaded,
-    devices: Devices<S, T, P>,
-    report: &mut R,
-) -> Answer<S, T, P>
-    requires image { IsLoadList loaded.now.image.loads }
-    requires open { devices.closed ≡ false ∷ false ∷ false ∷ [] }
-    requires connected { devices.shut.items ≡ [] }
-    ensures exits { result.status ≡ status_of result.outcome }
-    ensures runs { Runs (begun loaded.now.image loaded.now.points (length devices.ports.items))
-        (entries_of result.history) result.outcome }
-    ensures kept { AreDevices (seen S.end T.end P.end devices) (entries_of result.history)
-        (seen S.end T.end P.end result.devices) }
-    ensures same { StaySame result.history devices result.devices }
-    ensures reports { Reports result.outcome (entries_of result.history) (R.end report.old)
-        (R.end report.new) }
+fn port_count<S, T, P>(devices: &Devices<S, T, P>) -> u64
+    ensures value { result ≡ length devices.now.ports.items }
 {
-    let Parts {
-        history,
-        devices,
-        finish: came,
-    } = run_on(alloc, &loaded.image, &loaded.points, devices);
-    match (came, history) {
-        (Finish::Ended(ending), Some(history)) => finish(alloc, ending, history, devices, report),
-        (Finish::Unbuilt { pc }, history) => {
-            refuse(alloc, Outcome::Unbuilt { pc }, history, devices, report)
-        }
-        (_, history) => refuse(alloc, Outcome::Memory, history, devices, report),
-    }
+    devices.ports.len() as u64
 }
 
-/// Runs the command.
-fn command_top<F: Shelf, S: Source, T: Sink, P: Port, R: Sink>(
+/// The devices of a run, none of them closed.
+fn connect<S: Source, T: Sink, P: Port>(input: S, out: T, err: T, ports: Vec<P>) -> Devices<S, T, P>
+    ensures told { seen S.end T.end P.end result
+        ≡ handed S.end T.end P.end input out err ports.items }
+    ensures open { AllOpen (seen S.end T.end P.end result) }
+    ensures input { result.input ≡ input }
+    ensures out { result.out ≡ out }
+    ensures err { result.err ≡ err }
+    ensures ports { result.ports ≡ ports }
+{
+    Devices::new(input, out, err, ports)
+}
+
+/// Prepares the command, and runs what it gives.
+fn run_command<F: Shelf, S: Source, T: Sink, P: Port, R: Sink>(
     alloc: Global,
-    command: &Command<'_>,
+    words: &[String],
     shelf: &mut F,
     devices: Devices<S, T, P>,
     report: &mut R,
 ) -> Answer<S, T, P>
-    requires open { devices.closed ≡ false ∷ false ∷ false ∷ [] }
-    requires connected { devices.shut.items ≡ [] }
-    requires portless { devices.ports.items ≡ [] }
-    ensures exits { result.status ≡ status_of result.outcome }
-    ensures answers { Answers (F.seen shelf.old) (F.seen shelf.new) (asked command.now)
-        (entries_of result.history) result.outcome }
-    ensures kept { AreDevices (seen S.end T.end P.end devices) (entries_of result.history)
-        (seen S.end T.end P.end result.devices) }
+    requires open { AllOpen (seen S.end T.end P.end devices) }
+    ensures headline { Headline (texts words.now) (F.seen shelf.old) (F.seen shelf.new)
+        (seen S.end T.end P.end devices) (R.end report.old) (R.end report.new)
+        (told S.end T.end P.end result) }
     ensures same { StaySame result.history devices result.devices }
-    ensures reports { Reports result.outcome (entries_of result.history) (R.end report.old)
-        (R.end report.new) }
-    ensures later { Follows (F.seen shelf.old) (F.seen shelf.new) }
+    ensures files { Follows (F.seen shelf.old) (F.seen shelf.new) }
 {
-    match load_all(alloc, command, shelf) {
-        Err(outcome) => refuse(alloc, outcome, None, devices, report),
-        Ok(loaded) => run_top(alloc, &loaded, devices, report),
+    let handed = port_count(&devices);
+    match prepare(alloc, words, handed, shelf) {
+        Err(outcome) => answer_with_line(alloc, outcome, devices, report),
+        Ok(start) => run_loaded(alloc, &start, devices, report),
     }
 }
 
 /// Runs a program by the words of a command, to its end, and puts the report.
 ///
-/// Where nothing runs, the report sink is given one line instead. A failure of that put changes
-/// nothing in the answer. No port may be handed in.
+/// Where nothing runs, or a run doesn't end, the report sink is given one line instead. A failure
+/// of that put changes nothing in the answer. `ports` are the devices from descriptor 3 on, as many
+/// as the words name.
 pub fn alone_top<F: Shelf, S: Source, T: Sink, R: Sink>(
     alloc: Global,
-    words: &Vec<String>,
+    words: &[String],
     shelf: &mut F,
     input: S,
     out: T,
@@ -153,26 +178,17 @@ pub fn alone_top<F: Shelf, S: Source, T: Sink, R: Sink>(
     ports: Vec<Box<dyn Port + Send>>,
     report: &mut R,
 ) -> Answer<S, T>
-    requires portless { ports.items ≡ [] }
-    ensures headline { Headline (texts words.now.items) (F.seen shelf.old) (F.seen shelf.new)
-        (record {
-          input = S.end input;
-          out = T.end out;
-          err = T.end err;
-          ports = [];
-          closed = false ∷ false ∷ false ∷ [];
-          shut = [];
-        })
+    ensures headline { Headline (texts words.now) (F.seen shelf.old) (F.seen shelf.new)
+        (handed S.end T.end ⟦<Box<dyn Port + Send> as Port>⟧.end input out err ports.items)
         (R.end report.old) (R.end report.new)
         (told S.end T.end ⟦<Box<dyn Port + Send> as Port>⟧.end result) }
+
+    // Where no machine was started, the objects are those that were handed in.
     ensures same { IsNone result.history
         → (result.devices.input ≡ input) × (result.devices.out ≡ out)
-        × (result.devices.err ≡ err) }
+        × (result.devices.err ≡ err) × (result.devices.ports ≡ ports) }
     ensures files { Follows (F.seen shelf.old) (F.seen shelf.new) }
 {
-    let devices = Devices::new(input, out, err, ports);
-    match read_words(words) {
-        Err(fault) => refuse(alloc, Outcome::Words(fault), None, devices, report),
-        Ok(command) => command_top(alloc, &command, shelf, devices, report),
-    }
+    let devices = connect(input, out, err, ports);
+    run_command(alloc, words, shelf, devices, report)
 }

@@ -5,7 +5,7 @@ use guest_words::{Inst, Op};
 use std::process::Abort;
 
 /// A word, and its instruction, rd, rs1, rs2 and immediate.
-type Line = (u32, Op, u8, u8, u8, i64);
+type Line = (u32, Op, u8, u8, u8, i32);
 
 /// LUI, AUIPC and JAL.
 const UPPER: [Line; 10] = [

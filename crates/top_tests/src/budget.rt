@@ -2,7 +2,7 @@ use crate::case::{Case, run};
 use crate::image::image;
 use crate::replay::replays;
 use guest_words::Ending;
-use plain_machine::Entry;
+use run_history::Entry;
 use std::test::Fail;
 
 /// A jump to itself.
@@ -28,7 +28,7 @@ fn budget_of_a_loop(rt: HostRuntime) -> Result<(), Fail> {
     match &outcome.answer.history {
         Some(history) => {
             assert_eq!(rt; turns(history.items(), 64), Some(78_125));
-            assert!(rt; replays(alloc, &image(alloc, &LOOP, None)?, "", history.items())?);
+            assert!(rt; replays(alloc, &image(alloc, &LOOP, None)?, "", 0, history.items())?);
         }
         None => assert!(rt; false),
     }

@@ -1,20 +1,23 @@
 use crate::image::image;
-use edge_ports::{MemoryShelf, MemorySink, MemorySource, ShelfFile};
+use edge_ports::{MemoryPort, MemoryShelf, MemorySink, MemorySource, Port, ShelfFile};
 use guest_words::{Bytes, Name};
 use rescue_run::{Answer, alone_top};
 use std::alloc::{AllocError, Global};
 
 pub type Over = Answer<MemorySource, MemorySink>;
 
-/// What is run: the words of the program, its data, its rescue file, its input, and the numbers of
-/// the calls of its output and of its report that are to fail.
+/// What is run: the words of the program, its data, its rescue file and its input; whether a port
+/// is named and handed in; and the numbers of the calls of its output, of its port and of its
+/// report that are to fail.
 #[derive(Clone, Copy)]
 pub struct Case<'a> {
     pub words: &'a [u32],
     pub data: Option<&'a [u8]>,
     pub points: Option<&'a str>,
     pub input: &'a [u8],
+    pub port: bool,
     pub out_fails: &'a [u64],
+    pub port_fails: &'a [u64],
     pub report_fails: &'a [u64],
 }
 
@@ -26,9 +29,16 @@ impl<'a> Case<'a> {
             data: None,
             points: None,
             input: &[],
+            port: false,
             out_fails: &[],
+            port_fails: &[],
             report_fails: &[],
         }
+    }
+
+    /// How many ports are named.
+    pub fn ports(&self) -> u64 {
+        u64::from(self.port)
     }
 }
 
@@ -52,12 +62,14 @@ fn file(alloc: Global, text: &str, bytes: Vec<u8>) -> Result<ShelfFile, AllocErr
 
 /// The command of a case, whose program is `p` and whose rescue file, if there is one, is `f`.
 pub fn command(alloc: Global, case: &Case) -> Result<Vec<String>, AllocError> {
-    let plain = ["alone", "--seed", "0", "p"];
-    let rescued = ["alone", "--seed", "0", "--points", "f", "p"];
-    match case.points {
-        None => list(alloc, &plain),
-        Some(_) => list(alloc, &rescued),
+    let mut words = list(alloc, &["alone", "p"])?;
+    if case.points.is_some() {
+        words.push(String::from_str(alloc, "--points=f")?)?;
     }
+    if case.port {
+        words.push(String::from_str(alloc, "a:b")?)?;
+    }
+    Ok(words)
 }
 
 /// These words.
@@ -85,22 +97,26 @@ pub fn run(alloc: Global, case: &Case) -> Result<Outcome, AllocError> {
     run_on(alloc, &words, &mut shelf, case)
 }
 
-// A sink with room for all that a row puts; its calls of these numbers fail.
+// A sink with room for all that a case puts; its calls of these numbers fail.
 fn sink(alloc: Global, failing: &[u64]) -> Result<MemorySink, AllocError> {
-    match MemorySink::with_room(alloc, 1024, failing.to_vec(alloc)?) {
-        Ok(sink) => Ok(sink),
-        Err(_) => Err(AllocError),
-    }
+    MemorySink::with_room(alloc, 1024, failing.to_vec(alloc)?).map_err(|_| AllocError)
 }
 
 /// Runs a case with these words and files.
 pub fn run_on(
     alloc: Global,
-    words: &Vec<String>,
+    words: &[String],
     shelf: &mut MemoryShelf,
     case: &Case,
 ) -> Result<Outcome, AllocError> {
     let mut report = sink(alloc, case.report_fails)?;
+    let mut ports: Vec<Box<dyn Port + Send>> = Vec::new(alloc);
+    if case.port {
+        let input = Bytes::of(Vec::new(alloc));
+        let port = MemoryPort::with_room(alloc, input, 64, case.port_fails.to_vec(alloc)?);
+        let port = port.map_err(|_| AllocError)?;
+        ports.push(Box::new(alloc, port).map_err(|_| AllocError)?)?;
+    }
     let answer = alone_top(
         alloc,
         words,
@@ -108,7 +124,7 @@ pub fn run_on(
         MemorySource::new(Bytes::of(case.input.to_vec(alloc)?), Vec::new(alloc)),
         sink(alloc, case.out_fails)?,
         sink(alloc, &[])?,
-        Vec::new(alloc),
+        ports,
         &mut report,
     );
     Ok(Outcome { answer, report })

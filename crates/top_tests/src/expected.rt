@@ -1,7 +1,7 @@
 use guest_words::{Ending, FaultName, Way};
-use plain_machine::Entry;
+use run_history::Entry;
 
-/// An entry as a row names it; all are of the first hart.
+/// An entry as a case names it; all are of the first hart.
 #[derive(Clone, Copy)]
 pub enum Expected {
     Ran(u32),
@@ -10,6 +10,8 @@ pub enum Expected {
     Entered(u64),
     /// A rescued call: entry, fault, its pc, and the count of the one Ran inside.
     Rescued(u64, FaultName, u64, u32),
+    /// The same, with the closing of a port behind the Ran.
+    RescuedAfterClose(u64, FaultName, u64, u32, u64),
     Exit(u8),
     Fault(FaultName, u64),
     Budget,
@@ -32,14 +34,24 @@ fn is(entry: &Entry, expected: Expected) -> bool {
             call.port == port && call.way == way && call.asked == asked && call.answer == answer
         }
         (Entry::Rescued { .. }, Expected::Rescued(at, name, pc, count)) => {
-            is_rescued(entry, at, name, pc, count)
+            is_rescued(entry, at, name, pc, count, None)
+        }
+        (Entry::Rescued { .. }, Expected::RescuedAfterClose(at, name, pc, count, port)) => {
+            is_rescued(entry, at, name, pc, count, Some(port))
         }
         (Entry::Ended { ending }, expected) => is_ending(*ending, expected),
         _ => false,
     }
 }
 
-fn is_rescued(entry: &Entry, at: u64, name: FaultName, pc: u64, count: u32) -> bool {
+fn is_rescued(
+    entry: &Entry,
+    at: u64,
+    name: FaultName,
+    pc: u64,
+    count: u32,
+    closed: Option<u64>,
+) -> bool {
     match entry {
         Entry::Rescued {
             hart: 0,
@@ -47,18 +59,25 @@ fn is_rescued(entry: &Entry, at: u64, name: FaultName, pc: u64, count: u32) -> b
             fault,
             inside,
         } => {
-            let inside = are_ran(inside.as_slice(), count);
+            let inside = is_inside(inside.as_slice(), count, closed);
             point.entry == at && fault.name == name && fault.pc == pc && inside
         }
         _ => false,
     }
 }
 
-// One Ran of so many acts, or nothing where they are none.
-fn are_ran(entries: &[Entry], acts: u32) -> bool {
-    match entries {
-        [] => acts == 0,
-        [Entry::Ran { hart: 0, count }] => *count == acts,
+// One Ran of so many acts, or nothing where they are none, and then the closing of a port.
+fn is_inside(entries: &[Entry], acts: u32, closed: Option<u64>) -> bool {
+    match (entries, closed) {
+        ([], None) => acts == 0,
+        ([Entry::Ran { hart: 0, count }], None) => *count == acts,
+        (
+            [
+                Entry::Ran { hart: 0, count },
+                Entry::Called { hart: 0, call },
+            ],
+            Some(port),
+        ) => { *count == acts && call.port == port && call.way == Way::Close && call.answer == 0 }
         _ => false,
     }
 }

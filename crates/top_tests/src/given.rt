@@ -2,9 +2,11 @@ use crate::case::{Case, Outcome, run};
 use crate::expected::{Expected, are};
 use crate::image::image;
 use crate::replay::replays;
-use plain_machine::{Entry, History};
 use rescue_run::Outcome as Came;
+use run_history::{Entry, History};
 use std::alloc::{AllocError, Global};
+use std::process::Abort;
+use std::test::Fail;
 
 /// What a case has to give: its history, what the output was given, the status and the report.
 #[derive(Clone, Copy)]
@@ -31,10 +33,19 @@ fn goes(
     }
 }
 
-/// Whether a case gives this.
-pub fn gives(alloc: Global, case: &Case, given: &Given) -> Result<bool, AllocError> {
+/// Asserts each part of what a case gives.
+pub fn assert_gives(
+    rt: &impl Abort,
+    alloc: Global,
+    case: &Case,
+    given: &Given,
+) -> Result<Outcome, Fail> {
     let outcome = run(alloc, case)?;
-    is_given(alloc, case, &outcome, given)
+    assert_eq!(rt; outcome.answer.status, given.status);
+    assert!(rt; goes(alloc, case, &outcome.answer.history, given.history)?);
+    assert!(rt; outcome.answer.devices.out.given() == given.out);
+    assert!(rt; outcome.report.given() == given.report.as_bytes());
+    Ok(outcome)
 }
 
 fn is_given(
@@ -71,5 +82,5 @@ fn is_run(alloc: Global, case: &Case, history: &Option<History>) -> Result<bool,
 fn replay(alloc: Global, case: &Case, entries: &[Entry]) -> Result<bool, AllocError> {
     let file = image(alloc, case.words, case.data)?;
     let points = case.points.unwrap_or("");
-    replays(alloc, &file, points, entries)
+    replays(alloc, &file, points, case.ports(), entries)
 }

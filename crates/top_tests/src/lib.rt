@@ -12,10 +12,12 @@ mod given;
 #[cfg(test)]
 mod image;
 #[cfg(test)]
+mod ports;
+#[cfg(test)]
+mod programs;
+#[cfg(test)]
 mod refusals;
 #[cfg(test)]
 mod replay;
 #[cfg(test)]
 mod rescues;
-#[cfg(test)]
-mod rows;

@@ -5,6 +5,7 @@ use guest_words::{Bytes, Name};
 use std::alloc::{AllocError, Global};
 use std::test::Fail;
 
+// addi x17,x0,93; addi x10,x0,7; ecall
 const SMALLEST: [u32; 3] = [0x05d00893, 0x00700513, 0x00000073];
 
 /// Files by their names.
@@ -37,23 +38,30 @@ fn refused(
     )
 }
 
-const WORDS: [(&[&str], &str); 6] = [
-    (&[], "refused: words no-command\n"),
-    (&["fly"], "refused: words unknown-command\n"),
-    (&["alone"], "refused: words line\n"),
-    (&["alone", "--seed", "p"], "refused: words line\n"),
-    (&["alone", "--seed", "07", "p"], "refused: words line\n"),
+const WORDS: [(&[&str], u8, &str); 9] = [
+    (&[], 64, "refused: words no-command\n"),
+    (&["fly"], 64, "refused: words unknown-command\n"),
+    (&["alone"], 64, "refused: words line\n"),
+    (&["alone", "--seed", "p"], 64, "refused: words line\n"),
+    (&["alone", "p", "a"], 64, "refused: words port\n"),
+    (&["run", "--fly"], 64, "refused: words threads\n"),
     (
-        &["alone", "--seed", "18446744073709551616", "p"],
-        "refused: words line\n",
+        &["alone", "p", "a:b"],
+        65,
+        "refused: ports named 1 handed 0\n",
     ),
+    (&["list", "p"], 76, "refused: unbuilt command\n"),
+    (&["load", "1"], 76, "refused: unbuilt command\n"),
 ];
 
 #[test]
 fn command_words(rt: HostRuntime) -> Result<(), Fail> {
     let alloc = rt.alloc();
-    for (words, line) in WORDS {
-        assert!(rt; refused(alloc, words, Vec::new(alloc), 64, line)?, "{line}");
+    for (words, status, line) in WORDS {
+        assert!(rt;
+            refused(alloc, words, Vec::new(alloc), status, line)?,
+            "{line}"
+        );
     }
     Ok(())
 }
@@ -114,7 +122,7 @@ fn broken_symbols(rt: HostRuntime) -> Result<(), Fail> {
     Ok(())
 }
 
-const POINTS: [(&str, &str); 3] = [
+const POINTS: [(&str, &str); 6] = [
     (
         "[[point]]\nentry = 0x10002\nreturns = -1\n",
         "refused: points misaligned at 0\n",
@@ -123,7 +131,19 @@ const POINTS: [(&str, &str); 3] = [
         "[[point]]\nentry = 0x10000\nreturns = \"x\"\n",
         "refused: points bad-return at 0\n",
     ),
-    ("version = 2\n", "refused: points bad-version at top\n"),
+    ("version = 4\n", "refused: points bad-version at top\n"),
+    (
+        "version = 2\n[[point]]\nentry = 0x10000\nreturns = -1\nlimit = 0\n",
+        "refused: points bad-limit at 0\n",
+    ),
+    (
+        "version = 2\n[[point]]\nentry = 0x10000\nreturns = -1\ncodes = { load = 1 }\n",
+        "refused: points bad-codes at 0\n",
+    ),
+    (
+        "version = 3\n[[point]]\nentry = 0x10000\nreturns = -1\nkind = \"loose\"\n",
+        "refused: points loose-here at 0\n",
+    ),
 ];
 
 #[test]

@@ -5,8 +5,9 @@ use crate::image::TEXT;
 use elf_loader::load;
 use elf_symbols::functions;
 use guest_words::{Image, Points, Span};
-use plain_machine::{Entry, Plain};
+use plain_machine::Plain;
 use rescue_config::read_points;
+use run_history::Entry;
 use std::alloc::{AllocError, Global};
 
 /// Whether the entries are a run of the file from its start, entry by entry, with the points of a
@@ -15,11 +16,12 @@ pub fn replays(
     alloc: Global,
     file: &[u8],
     points: &str,
+    ports: u64,
     entries: &[Entry],
 ) -> Result<bool, AllocError> {
     let image = loaded(alloc, file)?;
     let points = named(alloc, file, points)?;
-    match Plain::start(alloc, &image, &points, 8, 0, 5_000_000) {
+    match Plain::start(alloc, &image, &points, 8, ports, 5_000_000) {
         Ok(start) => all_checked(alloc, start, entries),
         Err(_) => Err(AllocError),
     }

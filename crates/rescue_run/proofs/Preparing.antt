@@ -1,0 +1,180 @@
+-- What is prepared for words, by what their reading, the number of the ports and the files give.
+use Rattle.std.proofs.Common.{◌≡◌, ◌⊎◌, inl, inr, ℕ, Bool, true, false, if◌then◌else◌, ◌==◌, List, [], ◌∷◌, ◌++◌, take, Option, Some, None, Result, Ok, Err, refl, ap, sym, ◌∙◌, subst, IfSome, IsTrue, ◌↔◌, is_some, slice_get, codes}
+use Rattle.std.specs.Prelude.{unwrap_or}
+use Rattle.std.specs.Str.{bytes_eq}
+use Rattle.std.proofs.lemmas.Bool.{both_ways}
+use Rattle.std.proofs.lemmas.Slice.Eq.{bytes_eq-Decides}
+use Rattle.std.specs.Result.{result_err, result_map_both}
+use Rattle.std.proofs.lemmas.List.{append-nil}
+use Rattle.edge_ports.specs.Asked.{Asked}
+use Rattle.edge_ports.specs.Shelves.{Shelved}
+use Rattle.machine_core.specs.declared.limits.Limits.{Limits}
+use Rattle.program_words.specs.Words.{command_of, first_word_fault, reading_of}
+use Rattle.program_words.specs.declared.command.Command.{Command}
+use Rattle.program_words.specs.declared.words_fault.WordsFault.{WordsFault}
+use Rattle.program_words.specs.declared.words_fault.WordsFault.TheVariants as words_fault
+use Rattle.rescue_run.specs.Outcomes.{of_words_fault}
+use Rattle.program_words.specs.declared.word_fault.WordFault.{WordFault}
+use Rattle.program_words.specs.declared.word_fault.WordFault.TheVariants.{Threads}
+use Rattle.rescue_run.specs.declared.files.Files.{Files}
+use Rattle.rescue_run.specs.declared.start.Loaded.{Loaded}
+use Rattle.rescue_run.specs.declared.start.Start.{Start}
+use Rattle.rescue_run.specs.declared.outcome.Outcome.{Outcome}
+use Rattle.rescue_run.specs.declared.outcome.Outcome.TheVariants.{PortCount, Words, Memory}
+use Rattle.rescue_run.specs.Loading.{Answers}
+use Rattle.rescue_run.specs.Prepares.{AreAnswersFor, Prepares, PreparesCommand, PreparesCounted, StartsFiles}
+use Rattle.rescue_run.specs.Reads.{AreAnswers, IsAskedFor, IsOrMemory}
+use Rattle.rescue_run.specs.ReadsFiles.{ReadsFiles}
+use Rattle.rescue_run.specs.Words.{files_of, loads_by, loads_by_files, loads_for, loads_read, needs_threads, ports_named, start_by, start_for, start_read, with_limits}
+use Rattle.rescue_run.proofs.Shelving.{none_answered, no_answers, take_none}
+
+-- an answer that a function takes over
+
+asked_on : {A B : Type 0} (old new loads : List Asked) → (A → B) → IsAskedFor A old new loads → IsAskedFor B old new loads
+asked_on old new loads f (inl is) = inl is
+asked_on old new loads f (inr wants) = inr (f wants.0, wants.1)
+
+value_on : {A B : Type 0} (f : Result A Outcome → Result B Outcome) (r value : Result A Outcome) → f (Err Memory) ≡ Err Memory → IsOrMemory r value → IsOrMemory (f r) (f value)
+value_on f r value keeps (inl is) = inl (ap f is)
+value_on f r value keeps (inr memory) = inr (ap f memory ∙ keeps)
+
+pub starts_files : (f : Files) (limits : Limits) (old new : Shelved) (r : Result Loaded Outcome) → ReadsFiles f old new r
+    → StartsFiles f limits old new (with_limits limits r)
+starts_files f limits old new r reads = record {
+  answers = reads.answers;
+  answered = reads.answered;
+  asked = asked_on old.asked new.asked _ (λ memory. ap (with_limits limits) memory) reads.asked;
+  value = value_on (with_limits limits) r _ refl reads.value;
+}
+
+-- words that want threads, and words that are no command
+
+nothing_asked : (old : List Asked) → old ≡ old ++ []
+nothing_asked old = sym (append-nil old)
+
+no_words_answered : (words : List (List ℕ)) (s : Shelved) → AreAnswersFor words s s no_answers
+no_words_answered words s c f is of = none_answered s s f
+
+pub prepares_threads : (words : List (List ℕ)) (handed : ℕ) (s : Shelved) → needs_threads words ≡ true
+    → Prepares words handed s s (Err (Words Threads))
+prepares_threads words handed s threads = record {
+  answers = no_answers;
+  answered = no_words_answered words s;
+  asked = inl (subst (λ b. s.asked ≡ s.asked ++ (if b then [] else loads_read (command_of words) handed no_answers)) (sym threads) (nothing_asked s.asked));
+  value = inl (subst (λ b. Err (Words Threads) ≡ (if b then Err (Words Threads) else start_read (command_of words) handed no_answers)) (sym threads) refl);
+}
+
+-- the words are read, on one thread
+prepares_read : (words : List (List ℕ)) (handed : ℕ) (old new : Shelved) (result : Result Start Outcome) (answers : Answers) (reading : Result Command WordFault)
+    → needs_threads words ≡ false → command_of words ≡ reading → AreAnswersFor words old new answers
+    → IsAskedFor (result ≡ Err Memory) old.asked new.asked (loads_read reading handed answers)
+    → IsOrMemory result (start_read reading handed answers) → Prepares words handed old new result
+prepares_read words handed old new result answers reading alone is answered asked value = record {
+  answers = answers;
+  answered = answered;
+  asked = subst (λ b. IsAskedFor (result ≡ Err Memory) old.asked new.asked (if b then [] else loads_read (command_of words) handed answers)) (sym alone)
+      (subst (λ r. IsAskedFor (result ≡ Err Memory) old.asked new.asked (loads_read r handed answers)) (sym is) asked);
+  value = subst (λ b. IsOrMemory result (if b then Err (Words Threads) else start_read (command_of words) handed answers)) (sym alone)
+      (subst (λ r. IsOrMemory result (start_read r handed answers)) (sym is) value);
+}
+
+refused_reading : {A B : Type 0} (r : Result A WordFault) (f : A → B) (fault : WordFault) → result_err r ≡ Some fault
+    → result_map_both f (λ x. x) r ≡ Err fault
+refused_reading (Ok x) f fault is = absurd (both_ways false refl (ap is_some is))
+refused_reading (Err x) f fault is = ap (λ o. Err (unwrap_or o x)) is
+
+pub refused_command : (words : List (List ℕ)) (fault : WordFault) → first_word_fault words ≡ Some fault → command_of words ≡ Err fault
+refused_command words fault is = refused_reading (reading_of words) _ fault is
+
+pub prepares_refused : (words : List (List ℕ)) (handed : ℕ) (s : Shelved) (fault : WordFault) → needs_threads words ≡ false
+    → first_word_fault words ≡ Some fault → Prepares words handed s s (Err (Words fault))
+prepares_refused words handed s fault alone is =
+    prepares_read words handed s s (Err (Words fault)) no_answers (Err fault) alone (refused_command words fault is)
+    (no_words_answered words s) (inl (nothing_asked s.asked)) (inl refl)
+
+-- memory was wanting for the reading
+pub prepares_none : (words : List (List ℕ)) (handed : ℕ) (s : Shelved) → Prepares words handed s s (Err Memory)
+prepares_none words handed s = record {
+  answers = no_answers;
+  answered = no_words_answered words s;
+  asked = inr (refl, (0, nothing_asked s.asked ∙ ap (λ (xs : List Asked). s.asked ++ xs) (sym (take_none (loads_for words handed no_answers)))));
+  value = inr refl;
+}
+
+abbrev CommandErr : WordsFault → WordsFault → Type 0
+CommandErr fault other = ◌≡◌ {A = Result Command WordsFault} (Err fault) (Err other)
+
+-- the words give no command
+pub prepares_fault : (words : List (List ℕ)) (handed : ℕ) (s : Shelved) (fault : WordsFault) (outcome : Outcome) → outcome ≡ of_words_fault fault
+    → needs_threads words ≡ false → ((f : WordFault) → CommandErr fault (words_fault.Words f) → first_word_fault words ≡ Some f)
+    → Prepares words handed s s (Err outcome)
+prepares_fault words handed s (words_fault.Words f) outcome is alone cause =
+    subst (λ o. Prepares words handed s s (Err o)) (sym is) (prepares_refused words handed s f alone (cause f refl))
+prepares_fault words handed s words_fault.Memory outcome is alone cause =
+    subst (λ o. Prepares words handed s s (Err o)) (sym is) (prepares_none words handed s)
+
+-- the command runs on threads just where its first word says so
+same_tests : (a b : Bool) → (a ≡ true → b ≡ true) → (b ≡ true → a ≡ true) → a ≡ b
+same_tests true true f g = refl
+same_tests true false f g = sym (f refl)
+same_tests false true f g = g refl
+same_tests false false f g = refl
+
+pub needs_by : (words : List (List ℕ)) (b : Bool) → (IsTrue b ↔ (slice_get words 0 ≡ Some (codes "run"))) → b ≡ needs_threads words
+needs_by [] true iff = absurd (both_ways false refl (ap is_some (iff.0 refl)))
+needs_by [] false iff = refl
+needs_by (first ∷ rest) b iff =
+    same_tests b (bytes_eq first (codes "run"))
+    (λ y. (bytes_eq-Decides first (codes "run")).1 (ap (λ o. unwrap_or o first) (iff.0 y)))
+    (λ y. iff.1 (ap Some ((bytes_eq-Decides first (codes "run")).0 y)))
+
+-- a command that no file is read for
+pub prepares_nothing : (c : Command) (s : Shelved) (outcome : Outcome) → files_of c ≡ None → start_by c no_answers ≡ Err outcome
+    → PreparesCommand c s s (Err outcome)
+prepares_nothing c s outcome none gives = record {
+  answers = no_answers;
+  answered = subst (λ o. IfSome o (λ f. AreAnswers s s f no_answers)) (sym none) tt;
+  asked = inl (subst (λ o. s.asked ≡ s.asked ++ loads_by_files o no_answers) (sym none) (nothing_asked s.asked));
+  value = inl (sym gives);
+}
+
+-- another number of ports is handed in than is named
+no_files_answered : (o : Option Files) (s : Shelved) → IfSome o (λ f. AreAnswers s s f no_answers)
+no_files_answered None s = tt
+no_files_answered (Some f) s = none_answered s s f
+
+pub counted_other : (c : Command) (handed : ℕ) (s : Shelved) (named : ℕ) → named ≡ ports_named c → (named == handed) ≡ false
+    → PreparesCounted c handed s s (Err (PortCount named handed))
+counted_other c handed s named is other =
+    let apart : (ports_named c == handed) ≡ false = subst (λ n. (n == handed) ≡ false) is other in record {
+      answers = no_answers;
+      answered = no_files_answered (files_of c) s;
+      asked = inl (subst (λ b. s.asked ≡ s.asked ++ (if b then loads_by c no_answers else [])) (sym apart) (nothing_asked s.asked));
+      value = inl (subst (λ b. Err (PortCount named handed) ≡ (if b then start_by c no_answers else Err (PortCount (ports_named c) handed))) (sym apart)
+          (ap (λ n. Err (PortCount n handed)) is));
+    }
+
+pub counted_same : (c : Command) (handed : ℕ) (old new : Shelved) (result : Result Start Outcome) (named : ℕ) → named ≡ ports_named c
+    → (named == handed) ≡ true → PreparesCommand c old new result → PreparesCounted c handed old new result
+counted_same c handed old new result named is equal p =
+    let same : (ports_named c == handed) ≡ true = subst (λ n. (n == handed) ≡ true) is equal in record {
+      answers = p.answers;
+      answered = p.answered;
+      asked = subst (λ b. IsAskedFor (result ≡ Err Memory) old.asked new.asked (if b then loads_by c p.answers else [])) (sym same) p.asked;
+      value = subst (λ b. IsOrMemory result (if b then start_by c p.answers else Err (PortCount (ports_named c) handed))) (sym same) p.value;
+    }
+
+same_command : (r : Result Command WordFault) (c d : Command) → r ≡ Ok c → r ≡ Ok d → c ≡ d
+same_command r c d p q = search (p, q)
+
+given_files : (o : Option Files) (f : Files) (P : Files → Type 0) → IfSome o P → o ≡ Some f → P f
+given_files o f P holds is = subst (λ x. IfSome x P) is holds
+
+-- the command is prepared
+pub prepares_command : (words : List (List ℕ)) (handed : ℕ) (old new : Shelved) (result : Result Start Outcome) (c : Command) → needs_threads words ≡ false
+    → command_of words ≡ Ok c → PreparesCounted c handed old new result → Prepares words handed old new result
+prepares_command words handed old new result c alone is p =
+    prepares_read words handed old new result p.answers (Ok c) alone is
+    (λ d f reads of. given_files (files_of d) f (λ x. AreAnswers old new x p.answers)
+    (subst (λ k. IfSome (files_of k) (λ x. AreAnswers old new x p.answers)) (same_command (command_of words) c d is reads) p.answered) of)
+    p.asked p.value

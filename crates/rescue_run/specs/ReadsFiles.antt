@@ -1,0 +1,75 @@
+-- How the files of a command are read, one after the other.
+use Rattle.std.specs.Prelude.{◌≡◌, ◌⊎◌, ℕ, List, [], Option, Some, None, Result, Ok, Err}
+use Rattle.guest_words.specs.declared.elf_fault.ElfFault.{ElfFault}
+use Rattle.guest_words.specs.declared.point.Point.{Point}
+use Rattle.guest_words.specs.Image.{first_fault}
+use Rattle.edge_ports.specs.Shelves.{Loads, Shelved}
+use Rattle.elf_symbols.specs.declared.sym_fault.SymFault.{SymFault}
+use Rattle.elf_symbols.specs.SymbolTable.{first_symbol_fault}
+use Rattle.rescue_run.specs.declared.files.Files.{Files}
+use Rattle.rescue_run.specs.declared.start.Loaded.{Loaded}
+use Rattle.rescue_run.specs.declared.outcome.Which.TheVariants as which
+use Rattle.rescue_run.specs.declared.outcome.Outcome.{Outcome}
+use Rattle.rescue_run.specs.declared.outcome.Outcome.TheVariants.{Elf, Symbols, Memory}
+use Rattle.rescue_run.specs.Outcomes.{limit_of}
+use Rattle.rescue_run.specs.Loading.{image_of, loaded_of, loads_of_files, points_read, with_points, Answers, Read}
+use Rattle.rescue_run.specs.Reads.{AreAnswers, Follows, IsAskedFor, IsOrMemory}
+
+-- the rule that a program breaks first, or want of memory
+pub record BreaksElf (program : List ℕ) (outcome : Outcome) : Type 0 where
+  pub broken : ElfFault × ℕ
+  pub first : first_fault program ≡ Some broken
+  pub names : outcome ≡ Elf broken.0 broken.1
+
+abbrev pub IsUnaccepted : List ℕ → Outcome → Type 0
+IsUnaccepted program outcome = BreaksElf program outcome ⊎ (outcome ≡ Memory)
+
+-- the rule that its symbols break first, or want of memory
+pub record BreaksSymbols (program : List ℕ) (outcome : Outcome) : Type 0 where
+  pub broken : SymFault × ℕ
+  pub first : first_symbol_fault program ≡ Some broken
+  pub names : outcome ≡ Symbols broken.0 broken.1
+
+abbrev pub IsUnnamed : List ℕ → Outcome → Type 0
+IsUnnamed program outcome = BreaksSymbols program outcome ⊎ (outcome ≡ Memory)
+
+-- the rescue file of a name was loaded, and gave this
+pub record ReadsName (name program : List ℕ) (old new : Shelved)
+    (result : Result (List Point) Outcome) : Type 0 where
+  pub answer : Read
+  pub loads : Loads old new name (limit_of which.Points) answer
+  pub value : IsOrMemory result (points_read program answer)
+
+-- the same, or no rescue file is named
+abbrev pub ReadsPoints : Option (List ℕ) → List ℕ → Shelved → Shelved
+    → Result (List Point) Outcome → Type 0
+ReadsPoints None program old new result = (new ≡ old) × (result ≡ Ok [])
+ReadsPoints (Some name) program old new result = ReadsName name program old new result
+
+-- a program was refused, or is accepted and the rescue file, if one is named, was loaded
+pub record ReadsOn (name : Option (List ℕ)) (program : List ℕ) (old new : Shelved)
+    (result : Result Loaded Outcome) : Type 0 where
+  pub accepted : first_fault program ≡ None
+  pub points : Result (List Point) Outcome
+  pub reads : ReadsPoints name program old new points
+  pub gives : result ≡ with_points (image_of program) points
+
+pub record StopsAt (program : List ℕ) (old new : Shelved) (result : Result Loaded Outcome) : Type 0
+  where
+    pub outcome : Outcome
+    pub cause : IsUnaccepted program outcome
+    pub same : new ≡ old
+    pub gives : result ≡ Err outcome
+
+abbrev pub ReadsLater : Option (List ℕ) → List ℕ → Shelved → Shelved → Result Loaded Outcome
+    → Type 0
+ReadsLater name program old new result =
+    ReadsOn name program old new result ⊎ StopsAt program old new result
+
+-- the files were loaded, and gave this
+pub record ReadsFiles (f : Files) (old new : Shelved) (result : Result Loaded Outcome) : Type 0
+  where
+    pub answers : Answers
+    pub answered : AreAnswers old new f answers
+    pub asked : IsAskedFor (result ≡ Err Memory) old.asked new.asked (loads_of_files f answers)
+    pub value : IsOrMemory result (loaded_of f answers)

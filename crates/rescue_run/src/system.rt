@@ -1,0 +1,30 @@
+//! The top call over the files and the streams of the system.
+use crate::top::alone_top;
+use edge_ports::{FilePort, FileShelf, Port, Standard, StdSink, StdSource};
+use program_words::port_names;
+use std::alloc::AllocError;
+
+/// Runs a program by the words of a command, and answers the exit status. What the command tells
+/// goes to `report`. The ports are those that the words name, and none where they are refused.
+pub fn run_words(rt: &HostRuntime, words: &[String], report: Standard) -> Result<u8, AllocError> {
+    let alloc = rt.alloc();
+    let mut ports: Vec<Box<dyn Port + Send>> = Vec::new(alloc);
+    if let Ok(names) = port_names(alloc, words) {
+        for name in names.items() {
+            let port = FilePort::open(rt, name.input.items(), name.output.items());
+            ports.push(Box::new(alloc, port).map_err(|_| AllocError)?)?;
+        }
+    }
+    let mut shelf = FileShelf::new(rt.clone()?);
+    let answer = alone_top(
+        alloc,
+        words,
+        &mut shelf,
+        StdSource::new(rt.stdin()),
+        StdSink::new(Standard::Out(rt.stdout())),
+        StdSink::new(Standard::Err(rt.stderr())),
+        ports,
+        &mut StdSink::new(report),
+    );
+    Ok(answer.status)
+}
