@@ -1,6 +1,5 @@
-// Each object in memory with a failing call in the middle, each adapter over real files, and the
-// devices over them.
+// Objects in memory, and each adapter over real files. The devices over them are run by programs, in
+// `top_tests`.
 mod adapters;
-mod devices;
 mod file_shelf;
 mod in_memory;
