@@ -23,5 +23,5 @@ fn main(rt: HostRuntime) -> anyhow::Result<ExitCode> {
     } else {
         Standard::Err(rt.stderr())
     };
-    Ok(ExitCode::from(run_words(&rt, &words, report)?))
+    Ok(run_words(&rt, &words, report)?)
 }

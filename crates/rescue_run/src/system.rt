@@ -3,10 +3,15 @@ use crate::top::alone_top;
 use edge_ports::{FilePort, FileShelf, Port, Standard, StdSink, StdSource};
 use program_words::port_names;
 use std::alloc::AllocError;
+use std::process::ExitCode;
 
-/// Runs a program by the words of a command, and answers the exit status. What the command tells
-/// goes to `report`. The ports are those that the words name, and none where they are refused.
-pub fn run_words(rt: &HostRuntime, words: &[String], report: Standard) -> Result<u8, AllocError> {
+/// Runs a program by the words of a command, and answers its exit status as main hands it on. What
+/// the command tells goes to `report`. The ports are those that the words name, and none where they are refused.
+pub fn run_words(
+    rt: &HostRuntime,
+    words: &[String],
+    report: Standard,
+) -> Result<ExitCode, AllocError> {
     let alloc = rt.alloc();
     let mut ports: Vec<Box<dyn Port + Send>> = Vec::new(alloc);
     if let Ok(names) = port_names(alloc, words) {
@@ -26,5 +31,5 @@ pub fn run_words(rt: &HostRuntime, words: &[String], report: Standard) -> Result
         ports,
         &mut StdSink::new(report),
     );
-    Ok(answer.status)
+    Ok(ExitCode::from(answer.status))
 }

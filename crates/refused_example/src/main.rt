@@ -1,0 +1,15 @@
+//! A command whose program is missing, with its line on standard output.
+#![tactic(auto)]
+
+use edge_ports::Standard;
+use rescue_run::run_words;
+use std::env;
+use std::process::ExitCode;
+
+fn main(rt: HostRuntime) -> anyhow::Result<ExitCode> {
+    let mut words = Vec::new(rt.alloc());
+    for word in env::args(&rt)?.skip(1) {
+        words.push(word)?;
+    }
+    Ok(run_words(&rt, &words, Standard::Out(rt.stdout()))?)
+}
