@@ -1,7 +1,6 @@
-//! A command whose program is missing, with its line on standard output.
+//! A command that is refused on standard output, as the program runs it.
 #![tactic(auto)]
 
-use edge_ports::Standard;
 use rescue_run::run_words;
 use std::env;
 use std::process::ExitCode;
@@ -11,5 +10,5 @@ fn main(rt: HostRuntime) -> anyhow::Result<ExitCode> {
     for word in env::args(&rt)?.skip(1) {
         words.push(word)?;
     }
-    Ok(run_words(&rt, &words, Standard::Out(rt.stdout()))?)
+    Ok(run_words(&rt, &words)?)
 }

@@ -19,5 +19,5 @@ mod top;
 
 pub use answer::Answer;
 pub use outcome::{Outcome, Unbuilt, Which};
-pub use system::run_words;
+pub use system::{run_words, run_words_to};
 pub use top::alone_top;

@@ -1,13 +1,24 @@
 //! The top call over the files and the streams of the system.
 use crate::top::alone_top;
 use edge_ports::{FilePort, FileShelf, Port, Standard, StdSink, StdSource};
-use program_words::port_names;
+use program_words::{port_names, report_to_out};
 use std::alloc::AllocError;
 use std::process::ExitCode;
 
-/// Runs a program by the words of a command, and answers its exit status as main hands it on. What
-/// the command tells goes to `report`. The ports are those that the words name, and none where they are refused.
-pub fn run_words(
+/// Runs a program by the words of a command, and answers its exit status. What the command tells
+/// goes to standard output where it is the command's own output, and else to standard error.
+pub fn run_words(rt: &HostRuntime, words: &[String]) -> Result<ExitCode, AllocError> {
+    let report = if report_to_out(words) {
+        Standard::Out(rt.stdout())
+    } else {
+        Standard::Err(rt.stderr())
+    };
+    run_words_to(rt, words, report)
+}
+
+/// Runs a program by the words of a command, and answers its exit status. What the command tells
+/// goes to `report`. The ports are those that the words name, and none where they are refused.
+pub fn run_words_to(
     rt: &HostRuntime,
     words: &[String],
     report: Standard,

@@ -2,7 +2,7 @@
 #![tactic(auto)]
 
 use edge_ports::Standard;
-use rescue_run::run_words;
+use rescue_run::run_words_to;
 use std::env;
 use std::process::ExitCode;
 
@@ -11,5 +11,5 @@ fn main(rt: HostRuntime) -> anyhow::Result<ExitCode> {
     for word in env::args(&rt)?.skip(1) {
         words.push(word)?;
     }
-    Ok(run_words(&rt, &words, Standard::Out(rt.stdout()))?)
+    Ok(run_words_to(&rt, &words, Standard::Out(rt.stdout()))?)
 }
