@@ -1,0 +1,7 @@
+pub mod Acting
+pub mod Blanking
+pub mod InARow
+pub mod Made
+pub mod Placed
+pub mod RegisterActs
+pub mod Texts

@@ -1,0 +1,15 @@
+use Rattle.std.specs.Prelude.{◌≡◌, ◌+◌, ◌≤◌, ◌++◌, true}
+use Rattle.hart_step.specs.InARow.{after_acts, all_go, lone, notes_under, stays_open}
+use Rattle.hart_step.specs.InPlace.{HasZero}
+use Rattle.hart_step.specs.Table.{IsTable}
+use Rattle.hart_step.proofs.quantum.run.Given as goal
+
+abbrev pub invariant-loop-count : goal.invariant-loop-count
+invariant-loop-count l =
+    IsTable l.memory.space l.points l.table
+    × HasZero l.hart
+    × (all_go l.points l.frames l.count (lone l.fn.hart l.fn.memory) ≡ true)
+    × (lone l.hart l.memory ≡ after_acts l.points l.frames l.count (lone l.fn.hart l.fn.memory))
+    × (stays_open l.points l.frames l.top l.count (lone l.fn.hart l.fn.memory) ≡ true)
+    × (l.log.notes ≡ l.fn.log.notes ++ notes_under l.noted l.points l.frames l.count (lone l.fn.hart l.fn.memory))
+    × (l.fn.log.spare ≤ l.log.spare + l.count)
