@@ -1,0 +1,2 @@
+pub mod Rejoined
+pub mod Lending
