@@ -1,4 +1,5 @@
-ghost use Rattle.std.specs.Prelude.{◌≡◌, ◌≢◌, ◌<◌, ◌≤◌, ◌==◌, true, length, map, slice_get, IfOk, OnOk, OnErr};
+ghost use Rattle.std.specs.Prelude.{◌≡◌, ◌<◌, ◌≤◌, ◌==◌, true, List, Some, length, map, slice_get, IfOk, OnOk, OnErr};
+ghost use Rattle.guest_words.specs.declared.hart.Waiter.{Waiter};
 ghost use Rattle.std.specs.Borrow.{sem};
 ghost use Rattle.std.specs.List.{list_any};
 ghost use Rattle.std.specs.Option.{option_copied, option_map};
@@ -29,7 +30,7 @@ pub struct Slots {
 }
 
 impl Model for Slots {
-    ghost use Rattle.std.specs.Prelude.{List, ◌≡◌, ◌×◌, ◌≤◌, length};
+    ghost use Rattle.std.specs.Prelude.{List, ◌≡◌, ◌≤◌, length};
     ghost use Rattle.guest_words.specs.declared.limits.TheConstants.{HARTS};
     ghost use Rattle.guest_words.specs.declared.hart.Slot.{Slot};
     ghost use Rattle.hart_slots.specs.Rejoined.{joined};

@@ -5,3 +5,4 @@ pub mod Made
 pub mod Placed
 pub mod RegisterActs
 pub mod Texts
+mod Walks

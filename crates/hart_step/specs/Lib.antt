@@ -4,3 +4,9 @@ pub mod InPlace
 pub mod Looked
 pub mod Registers
 pub mod Table
+pub mod Live
+pub mod Sees
+pub mod Stops
+pub mod Noted
+pub mod Returns
+pub mod Inside

@@ -1,27 +1,31 @@
-//! The act of a hart in place, many acts in a row, and register acts over a text.
+//! The executable state of a run, and its changes in place.
 #![tactic(auto)]
 
+mod acts;
 mod before;
 mod carry;
 mod deciding;
 mod did;
+mod engine;
 mod guest;
 mod known;
 mod look;
 mod memory_rows;
+mod next_act;
 mod outcomes;
 mod quantum;
 mod rare_rows;
+mod readers;
+mod record_log;
 mod register_rows;
 mod registers;
+mod serving;
 mod step;
 mod stretches;
 mod text;
 
-pub use before::Before;
 pub use deciding::decide;
-pub use did::Did;
-pub use guest::Guest;
-pub use quantum::Ran;
+pub use engine::Engine;
+pub use next_act::{Ask, NextAct, Run};
 pub use stretches::run_registers;
 pub use text::Text;
