@@ -76,7 +76,7 @@ unfolding legal after
 ahead_entered s h p is =
     let t = enter s h p in
     let may : may_act s h ≡ true = and_left _ _ is in
-    let ready : is_ready_at s h ≡ true = and_right (is_going s) _ (and_left _ _ (and_left _ _ may)) in
+    let ready : is_ready_at s h ≡ true = and_right (is_going s) _ (and_left _ _ may) in
     let frames : frames_at t h ≡ frames_at s h + 1 = frames_entered_ready s h p ready in
     let before : arrival_ahead (slice_get s.slots h) ≡ 2 = arrival_arrived s h p (and_right (may_act s h) _ is) in
     let behind : arrival_ahead (slice_get t.slots h) ≡ 0 = entered_still s h p in

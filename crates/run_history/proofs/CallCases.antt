@@ -20,10 +20,9 @@ use Rattle.guest_words.specs.Word.{low_32}
 use Rattle.guest_words.specs.Act.{StateAct, Fault, Request, Arrival, End, Absent, act_of, act_of_call, act_of_slot, in_state, ordinary, replied, written}
 use Rattle.guest_words.specs.CallChanges.{breaks, maps, unmaps, free_place, mapped_pages, answered, any_other, clones, exits, facts_of, free_slot, is_live, is_readable, is_usable, queued, tid_of, wakes, word_at}
 use Rattle.guest_words.specs.Calls.{child_in, cut, makes_hart, reply_of, reply_of_transfer, is_map_known, is_in_area, mapped_at, mapped_rights}
-use Rattle.guest_words.specs.HartAct.{arrival_of, hart_act}
+use Rattle.guest_words.specs.HartAct.{hart_act}
 use Rattle.guest_words.specs.Space.{pages_in, can_read, can_write}
 use Rattle.guest_words.specs.State.{State, frames_at, is_open, with_hart}
-use Rattle.run_history.specs.Built.{is_built, is_built_at, is_built_slot}
 use Rattle.run_history.proofs.Ands.{if_by}
 
 -- what has to be shown of each thing that a call can do
@@ -121,16 +120,3 @@ module _ (P : StateAct → Type 0) (s : State) (h : ℕ) where
       by : (o : Option Slot) → ((slot : Slot) → o ≡ Some slot → ActCases P s h (hart_act s.memory s.points (length slot.frames) slot.hart)) → P (act_of_slot s h o)
       by None cases = absent
       by (Some slot) cases = in_state_by _ (cases slot refl)
-
-  -- the same, of an act that is built
-  pub built_act_by : is_built s h ≡ true
-      → ((slot : Slot) → slice_get s.slots h ≡ Some slot → is_built_at (arrival_of s.points (length slot.frames) slot.hart) s.memory slot.hart (length slot.frames) ≡ true
-      → ActCases P s h (hart_act s.memory s.points (length slot.frames) slot.hart))
-      → P (act_of s h)
-  unfolding is_built act_of
-  built_act_by built cases = by (slice_get s.slots h) cases built
-    where
-      by : (o : Option Slot) → ((slot : Slot) → o ≡ Some slot → is_built_at (arrival_of s.points (length slot.frames) slot.hart) s.memory slot.hart (length slot.frames) ≡ true
-          → ActCases P s h (hart_act s.memory s.points (length slot.frames) slot.hart)) → is_built_slot s o ≡ true → P (act_of_slot s h o)
-      by None cases built = cc
-      by (Some slot) cases built = in_state_by _ (cases slot refl built)

@@ -48,7 +48,7 @@ pub each_fewer : (f : Hart → Hart) (slots : List Slot) → HasFewer slots (on_
 each_fewer f [] = λ k. omega arith
 each_fewer f (x ∷ xs) = cons_fewer x (on_hart f x) xs (on_each f xs) (omega arith) (each_fewer f xs)
 
-length-close_frames : (hart : Hart) (frames : List Frame) → length (close_frames hart frames) ≤ length frames
+pub length-close_frames : (hart : Hart) (frames : List Frame) → length (close_frames hart frames) ≤ length frames
 unfolding close_frames
 length-close_frames hart [] = omega arith
 length-close_frames hart (frame ∷ frames) = let below = length-close_frames hart frames in by (close_frames hart frames) below
@@ -66,8 +66,8 @@ child_fewer slot child None slots none = fewer_same slots
 child_fewer slot child (Some parent) slots none = let new : length (child parent).frames ≡ 0 = ap length (none parent) in set_fewer slots slot (child parent) (omega (arith, new))
 
 -- no change of an act opens a frame
-own : (h : ℕ) → OwnChanges h OpensNone
-own h = record {
+pub opens_none : (h : ℕ) → OwnChanges h OpensNone
+opens_none h = record {
   same = λ s. fewer_same s.slots;
   both = λ a b c p q. fewer_both a.slots b.slots c.slots p q;
   rest = λ s m brk waiting tid steps. fewer_same s.slots;
@@ -77,20 +77,20 @@ own h = record {
   each = λ s f same. each_fewer f s.slots;
 }
 
-other : OtherChanges OpensNone
-other = record {
+pub opens_none_other : OtherChanges OpensNone
+opens_none_other = record {
   wakes = λ s k. changed_fewer (on_hart ready) k s.slots (λ slot. omega arith);
   bears = λ s slot child parent none. child_fewer slot child parent s.slots none;
 }
 
 pub next_fewer : (s : State) (h : ℕ) → OpensNone s (next s h)
-next_fewer s h = next_walked h OpensNone (own h) s (walked_act h OpensNone (own h) other s)
+next_fewer s h = next_walked h OpensNone (opens_none h) s (walked_act h OpensNone (opens_none h) opens_none_other s)
 
 pub ran_fewer : (s : State) (h n : ℕ) → OpensNone s (ran s h n)
-ran_fewer s h n = ran_walked h OpensNone (own h) n s (λ t. walked_act h OpensNone (own h) other t)
+ran_fewer s h n = ran_walked h OpensNone (opens_none h) n s (λ t. walked_act h OpensNone (opens_none h) opens_none_other t)
 
 pub called_fewer : (s : State) (h : ℕ) (r : Record) → OpensNone s (called s h r)
-called_fewer s h r = called_walked h OpensNone (own h) (λ t rs. fewer_same t.slots) s r
+called_fewer s h r = called_walked h OpensNone (opens_none h) (λ t rs. fewer_same t.slots) s r
 
 pub rescued_fewer : (s : State) (h : ℕ) (p : PointRef) (f : FaultAt) (t : State) → OpensNone s (rescued_from s h p f t)
-rescued_fewer s h p f t = rescued_walked h OpensNone (own h) (λ t rs. fewer_same t.slots) (λ t ps. fewer_same t.slots) s t p f
+rescued_fewer s h p f t = rescued_walked h OpensNone (opens_none h) (λ t rs. fewer_same t.slots) (λ t ps. fewer_same t.slots) s t p f

@@ -21,7 +21,6 @@ pub mod ByteLengths
 pub mod Arrivals
 pub mod Ahead
 pub mod Faulting
-pub mod BuiltActs
 pub mod Lone
 pub mod Readiness
 pub mod Fetches

@@ -12,7 +12,7 @@ use Rattle.run_history.proofs.Ands.{and_left, and_right}
 use Rattle.run_history.proofs.Kept.{after_ending}
 
 may_goes : (s : State) (h : ℕ) → may_act s h ≡ true → is_none s.ending ≡ true
-may_goes s h is = and_left _ _ (and_left _ _ (and_left _ _ (and_left _ _ is)))
+may_goes s h is = and_left _ _ (and_left _ _ (and_left _ _ is))
 
 ending_goes : (x : Ending) (s : State) → is_ending s x ≡ true → is_none s.ending ≡ true
 ending_goes (ending.Exit h code) s is = may_goes s h (and_left _ _ is)

@@ -12,7 +12,6 @@ use Rattle.guest_words.specs.State.{State, enter, frames_at}
 use Rattle.run_history.specs.declared.entry.Entry.{Entry, Ended}
 use Rattle.run_history.specs.declared.entry.Entry.TheViews as v
 use Rattle.run_history.specs.After.{after, state_after}
-use Rattle.run_history.specs.Built.{is_built}
 use Rattle.run_history.specs.Legal.{ends_in, is_arrival, is_licensed, is_of, legal, legal_inside, may_act}
 use Rattle.run_history.proofs.Appends.{legal_inside-append}
 use Rattle.run_history.proofs.Insides.{legal-Rescued}
@@ -20,7 +19,7 @@ use Rattle.run_history.proofs.Insides.{legal-Rescued}
 -- the end of the inside
 
 no_fault : (s : State) (h : ℕ) (fault : FaultAt) (frames : ℕ) → faults s h fault ≡ false → ends_in s h fault frames ≡ false
-no_fault s h fault frames absent = and_right ((frames_at s h == frames + 1) && not (is_budget_spent s) && is_built s h) (faults s h fault) absent
+no_fault s h fault frames absent = and_right ((frames_at s h == frames + 1) && not (is_budget_spent s)) (faults s h fault) absent
 
 no_fault_in : (s : State) (a : StateAct) (h : ℕ) (fault : FaultAt) (frames : ℕ) → act_of s h ≡ a → is_fault fault.name a ≡ false → ends_in s h fault frames ≡ false
 no_fault_in s a h fault frames act other =
@@ -51,13 +50,13 @@ no_licence-for_another_place s h fault frames elsewhere =
 
 -- a fault in a frame further in or out is another frame's
 pub no_licence-in_another_frame : (s : State) (h : ℕ) (fault : FaultAt) (frames : ℕ) → (frames_at s h == frames + 1) ≡ false → ends_in s h fault frames ≡ false
-no_licence-in_another_frame s h fault frames other = ap (λ b. b && not (is_budget_spent s) && is_built s h && faults s h fault) other
+no_licence-in_another_frame s h fault frames other = ap (λ b. b && not (is_budget_spent s) && faults s h fault) other
 
 -- a budget that is spent ends the run, and rescues nothing
 pub no_licence-past_the_budget : (s : State) (h : ℕ) (fault : FaultAt) (frames : ℕ) → is_budget_spent s ≡ true → ends_in s h fault frames ≡ false
 no_licence-past_the_budget s h fault frames spent =
-    ap (λ b. (frames_at s h == frames + 1) && not b && is_built s h && faults s h fault) spent
-    ∙ ap (λ b. b && is_built s h && faults s h fault) (and_right (frames_at s h == frames + 1) false refl)
+    ap (λ b. (frames_at s h == frames + 1) && not b && faults s h fault) spent
+    ∙ ap (λ b. b && faults s h fault) (and_right (frames_at s h == frames + 1) false refl)
 
 -- the entries of the inside
 

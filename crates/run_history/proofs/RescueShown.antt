@@ -28,11 +28,10 @@ use Rattle.guest_words.proofs.StartMemory.{get-gathered}
 use Rattle.run_history.specs.declared.entry.Entry.{Ran, Ended}
 use Rattle.run_history.specs.declared.entry.Entry.TheViews as v
 use Rattle.run_history.specs.After.{after, rescued_from}
-use Rattle.run_history.specs.Built.{is_built, is_built_inst}
-use Rattle.run_history.specs.Legal.{ends_in, is_arrival, is_licensed, legal, may_act}
+use Rattle.run_history.specs.Legal.{ends_in, is_arrival, is_licensed, legal}
 use Rattle.run_history.specs.Run.{IsRun, is_run}
 use Rattle.run_history.proofs.Entries.{after-Ran, legal-Fault, legal-Ran}
-use Rattle.run_history.proofs.Fetches.{HasCells, bytes_at-cells, each_has-cells, fetched_act-word, inst_at-word}
+use Rattle.run_history.proofs.Fetches.{HasCells, bytes_at-cells, each_has-cells, fetched_act-word}
 use Rattle.run_history.proofs.Insides.{after-Rescued, legal-Rescued}
 use Rattle.run_history.proofs.RefusedRescues.{no_licence-for_another_name, no_licence-for_another_place, no_licence-with_an_illegal_entry, rescue_of_an_illegal_inside, rescue_without_a_fault, rescue_without_an_arrival}
 use Rattle.run_history.proofs.RunSteps.{can_run-none, can_run-ordinary, ran-none, ran-ordinary}
@@ -136,17 +135,9 @@ unreadable = each_has-cells memory text_cell 0x20000 has_text (λ r. r.read) 0 8
 
 -- the jumps
 
-built0 : (steps : ℕ) → is_built (at_start steps) 0 ≡ true
-unfolding is_built instruction_of row_of
-built0 steps = ap (λ i. is_built_inst i (hart_with 0x10000 0 0 false) 0) (inst_at-word memory 0x10000 0x010000ef refl exec0 word0)
-
 jumps0 : (steps : ℕ) → act_of (at_start steps) 0 ≡ Ordinary (at_point steps)
 unfolding act_of hart_act act_of_inst instruction_of row_of changed close_frames
 jumps0 steps = ap (in_state (at_start steps) 0) (fetched_act-word memory (hart_with 0x10000 0 0 false) 0x010000ef refl exec0 word0)
-
-built1 : (steps : ℕ) → is_built (back steps) 0 ≡ true
-unfolding is_built instruction_of row_of
-built1 steps = ap (λ i. is_built_inst i (hart_with 0x10004 0x10004 0xfffffffffffffffc false) 0) (inst_at-word memory 0x10004 0x00c000ef refl exec1 word1)
 
 jumps1 : (steps : ℕ) → act_of (back steps) 0 ≡ Ordinary (at_spent steps)
 unfolding act_of hart_act act_of_inst instruction_of row_of changed close_frames
@@ -156,10 +147,6 @@ jumps1 steps = ap (in_state (back steps) 0) (fetched_act-word memory (hart_with 
 arrives : act_of (at_point 1) 0 ≡ Arrival point
 unfolding act_of hart_act
 arrives = refl
-
-may_arrive : may_act (at_point 1) 0 ≡ true
-unfolding is_built
-may_arrive = refl
 
 enters : enter (at_point 1) 0 point ≡ in_call
 unfolding enter changed
@@ -176,20 +163,16 @@ load_act x1 x10 arrived =
     fetched_act-word memory (hart_with 0x10010 x1 x10 arrived) 0x00003383 refl exec4 word4
     ∙ ap (λ b. if b then act.Next (with_result (hart_with 0x10010 x1 x10 arrived) load (number_at memory 0 8)) None else act.Fault LoadRights) unreadable
 
-built_call : is_built in_call 0 ≡ true
-unfolding is_built instruction_of row_of
-built_call = ap (λ i. is_built_inst i (hart_with 0x10010 0x10004 0 false) 1) (inst_at-word memory 0x10010 0x00003383 refl exec4 word4)
-
 falls : act_of in_call 0 ≡ Fault LoadRights
 unfolding act_of hart_act
 falls = ap (in_state in_call 0) (load_act 0x10004 0 false)
 
 -- the call, with nothing before its fault, is licensed
 licensed : is_licensed (at_point 1) 0 point fault [] ≡ true
-licensed = ap (λ s. ends_in s 0 fault 0) enters ∙ and_from _ _ built_call (ap (is_fault LoadRights) falls)
+licensed = ap (λ s. ends_in s 0 fault 0) enters ∙ ap (is_fault LoadRights) falls
 
 legal_call : legal (at_point 1) (v.Rescued 0 point fault []) ≡ true
-legal_call = legal-Rescued (at_point 1) 0 point fault [] ∙ and_from _ _ (and_from _ _ may_arrive (ap (is_arrival point) arrives)) licensed
+legal_call = legal-Rescued (at_point 1) 0 point fault [] ∙ and_from _ _ (ap (is_arrival point) arrives) licensed
 
 -- after it the call has returned the code of its fault, the point has no rescue left, and nothing
 -- else of the call is left but its steps
@@ -198,23 +181,19 @@ unfolding rescued_from changed close_frames
 code_by_fault_name-returns = after-Rescued (at_point 1) 0 point fault [] ∙ ap (rescued_from (at_point 1) 0 point fault) enters
 
 -- at the spent point no call is entered: the load faults in the caller's frame
-built_spent : is_built (at_spent 2) 0 ≡ true
-unfolding is_built instruction_of row_of
-built_spent = ap (λ i. is_built_inst i (hart_with 0x10010 0x10008 0xfffffffffffffffc true) 0) (inst_at-word memory 0x10010 0x00003383 refl exec4 word4)
-
 falls_spent : act_of (at_spent 2) 0 ≡ Fault LoadRights
 unfolding act_of hart_act
 falls_spent = ap (in_state (at_spent 2) 0) (load_act 0x10008 0xfffffffffffffffc true)
 
 first_jump : legal (at_start 0) (Ran 0 1) ≡ true
 first_jump =
-    legal-Ran (at_start 0) 0 1 (built0 0) (omega arith)
-    (can_run-ordinary (at_start 0) (at_point 0) 0 0 refl refl (built0 0) (jumps0 0) (can_run-none (at_point 1) 0))
+    legal-Ran (at_start 0) 0 1 refl (omega arith)
+    (can_run-ordinary (at_start 0) (at_point 0) 0 0 refl refl (jumps0 0) (can_run-none (at_point 1) 0))
 
 second_jump : legal (back 1) (Ran 0 1) ≡ true
 second_jump =
-    legal-Ran (back 1) 0 1 (built1 1) (omega arith)
-    (can_run-ordinary (back 1) (at_spent 1) 0 0 refl refl (built1 1) (jumps1 1) (can_run-none (at_spent 2) 0))
+    legal-Ran (back 1) 0 1 refl (omega arith)
+    (can_run-ordinary (back 1) (at_spent 1) 0 0 refl refl (jumps1 1) (can_run-none (at_spent 2) 0))
 
 after_first : after (at_start 0) (Ran 0 1) ≡ at_point 1
 after_first = after-Ran (at_start 0) 0 1 ∙ ran-ordinary (at_start 0) (at_point 0) 0 0 (jumps0 0) ∙ ran-none (at_point 1) 0
@@ -228,7 +207,7 @@ spent_point-is_a_run =
     and_from _ _ first_jump (ap (λ s. is_run s (v.Rescued 0 point fault [] ∷ Ran 0 1 ∷ Ended (ending.Fault 0 fault) ∷ [])) after_first
     ∙ and_from _ _ legal_call (ap (λ s. is_run s (Ran 0 1 ∷ Ended (ending.Fault 0 fault) ∷ [])) code_by_fault_name-returns
     ∙ and_from _ _ second_jump (ap (λ s. is_run s (Ended (ending.Fault 0 fault) ∷ [])) after_second
-    ∙ and_from _ _ (legal-Fault (at_spent 2) 0 0x10010 LoadRights built_spent falls_spent refl refl) refl)))
+    ∙ and_from _ _ (legal-Fault (at_spent 2) 0 0x10010 LoadRights refl falls_spent refl refl) refl)))
 
 -- at the spent point there is no call to rescue
 pub spent_point-is_not_entered : legal (at_spent 2) (v.Rescued 0 point fault []) ≡ false

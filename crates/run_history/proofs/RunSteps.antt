@@ -6,7 +6,6 @@ use Rattle.guest_words.specs.Act.{StateAct, Ordinary, Fault, Request, Arrival, E
 use Rattle.guest_words.specs.Endings.{is_budget_spent}
 use Rattle.guest_words.specs.State.{State}
 use Rattle.run_history.specs.After.{counted, moved, next, ran}
-use Rattle.run_history.specs.Built.{is_built}
 use Rattle.run_history.specs.Legal.{can_go, can_run, is_ordinary, is_ready_at}
 use Rattle.run_history.proofs.Ands.{and_left, and_right}
 
@@ -27,34 +26,45 @@ next-still s h other = by (act_of s h) other
     by (End code) e = refl
     by Absent e = refl
 
-pub can_run-ordinary : (s t : State) (h n : ℕ) → is_budget_spent s ≡ false → is_ready_at s h ≡ true → is_built s h ≡ true → act_of s h ≡ Ordinary t
+pub can_run-ordinary : (s t : State) (h n : ℕ) → is_budget_spent s ≡ false → is_ready_at s h ≡ true → act_of s h ≡ Ordinary t
     → can_run (counted s t) h n ≡ true → can_run s h (suc n) ≡ true
 unfolding can_run
-can_run-ordinary s t h n fresh ready built act rest =
-    and_from _ _ (and_from _ _ (and_from _ _ (and_from _ _ (ap not fresh) ready) built) (ap is_ordinary act)) (ap (λ u. can_run u h n) (next-ordinary s t h act) ∙ rest)
+can_run-ordinary s t h n fresh ready act rest =
+    and_from _ _ (and_from _ _ (and_from _ _ (ap not fresh) ready) (ap is_ordinary act)) (ap (λ u. can_run u h n) (next-ordinary s t h act) ∙ rest)
 
 pub ran-ordinary : (s t : State) (h n : ℕ) → act_of s h ≡ Ordinary t → ran s h (suc n) ≡ ran (counted s t) h n
 unfolding ran
 ran-ordinary s t h n act = ap (λ u. ran u h n) (next-ordinary s t h act)
 
--- one act more at the end
-ran-last : (s : State) (h n : ℕ) → ran s h (suc n) ≡ next (ran s h n) h
+-- so many acts, and so many more
+pub ran-both : (s : State) (h n m : ℕ) → ran s h (n + m) ≡ ran (ran s h n) h m
 unfolding ran
-ran-last s h zero = refl
-ran-last s h (suc n) = ran-last (next s h) h n
+ran-both s h zero m = let none : 0 + m ≡ m = omega arith in ap (ran s h) none
+ran-both s h (suc n) m = let first : suc n + m ≡ suc (n + m) = omega arith in ap (ran s h) first ∙ ran-both (next s h) h n m
 
-pub ran-more : (s : State) (h n : ℕ) → ran s h (n + 1) ≡ next (ran s h n) h
-ran-more s h n = let last : n + 1 ≡ suc n = omega arith in ap (ran s h) last ∙ ran-last s h n
-
-can_run-last : (s : State) (h n : ℕ) → can_run s h n ≡ true → can_go (ran s h n) h ≡ true → can_run s h (suc n) ≡ true
+pub can_run-both : (s : State) (h n m : ℕ) → can_run s h n ≡ true → can_run (ran s h n) h m ≡ true → can_run s h (n + m) ≡ true
 unfolding can_run ran
-can_run-last s h zero so_far goes = ap (λ b. b && true) goes
-can_run-last s h (suc n) so_far goes =
-    and_from (can_go s h) (can_run (next s h) h (suc n)) (and_left (can_go s h) (can_run (next s h) h n) so_far)
-    (can_run-last (next s h) h n (and_right (can_go s h) (can_run (next s h) h n) so_far) goes)
+can_run-both s h zero m so_far more = let none : 0 + m ≡ m = omega arith in ap (can_run s h) none ∙ more
+can_run-both s h (suc n) m so_far more =
+    let first : suc n + m ≡ suc (n + m) = omega arith in
+    ap (can_run s h) first
+    ∙ and_from _ _ (and_left (can_go s h) (can_run (next s h) h n) so_far) (can_run-both (next s h) h n m (and_right (can_go s h) (can_run (next s h) h n) so_far) more)
+
+-- one act alone
+pub ran-one : (s : State) (h : ℕ) → ran s h 1 ≡ next s h
+unfolding ran
+ran-one s h = refl
+
+pub can_run-one : (s : State) (h : ℕ) → can_go s h ≡ true → can_run s h 1 ≡ true
+unfolding can_run
+can_run-one s h goes = and_from _ true goes refl
+
+-- and one more at the end
+pub ran-more : (s : State) (h n : ℕ) → ran s h (n + 1) ≡ next (ran s h n) h
+ran-more s h n = ran-both s h n 1 ∙ ran-one (ran s h n) h
 
 pub can_run-more : (s : State) (h n : ℕ) → can_run s h n ≡ true → can_go (ran s h n) h ≡ true → can_run s h (n + 1) ≡ true
-can_run-more s h n so_far goes = let last : n + 1 ≡ suc n = omega arith in ap (can_run s h) last ∙ can_run-last s h n so_far goes
+can_run-more s h n so_far goes = can_run-both s h n 1 so_far (can_run-one (ran s h n) h goes)
 
 pub ran-none : (s : State) (h : ℕ) → ran s h 0 ≡ s
 unfolding ran

@@ -19,11 +19,10 @@ use Rattle.guest_words.specs.State.{State, changed}
 use Rattle.guest_words.proofs.StartMemory.{get-gathered}
 use Rattle.run_history.specs.declared.entry.Entry.{Ran, Ended}
 use Rattle.run_history.specs.After.{after}
-use Rattle.run_history.specs.Built.{is_built, is_built_at, is_built_inst}
 use Rattle.run_history.specs.Legal.{can_run}
 use Rattle.run_history.specs.Run.{IsRun, is_run}
 use Rattle.run_history.proofs.Entries.{legal-Exit, legal-Ran}
-use Rattle.run_history.proofs.Fetches.{HasCells, bytes_at-cells, each_has-cells, fetched_act-word, inst_at-word}
+use Rattle.run_history.proofs.Fetches.{HasCells, bytes_at-cells, each_has-cells, fetched_act-word}
 use Rattle.run_history.proofs.RunSteps.{can_run-none, can_run-ordinary, ran-none, ran-ordinary}
 
 -- the program's bytes, from 0x10000 on
@@ -115,26 +114,6 @@ act2 : hart_act memory [] 0 h2 ≡ Call (Exiting 7)
 unfolding act_of_inst instruction_of row_of request_of
 act2 = act-of_word h2 0x00000073 refl refl exec2 word2
 
--- the machine has these acts
-built-of_word : (hart : Hart) (word steps : ℕ) → hart.arrived ≡ false → (hart.pc % 4 == 0) ≡ true → can_execute memory hart.pc 4 ≡ true → number_at memory hart.pc 4 ≡ word
-    → is_built (state_with hart steps) 0 ≡ is_built_inst (instruction_of word) hart 0
-unfolding is_built
-built-of_word hart word steps still even may is =
-    ap (λ b. is_built_at (if b && nat_lt 0 16 then active_at [] hart.pc else None) (state_with hart steps).memory hart 0) still
-    ∙ ap (λ i. is_built_inst i hart 0) (inst_at-word memory hart.pc word even may is)
-
-built0 : (steps : ℕ) → is_built (state_with h0 steps) 0 ≡ true
-unfolding instruction_of row_of
-built0 steps = built-of_word h0 0x05d00893 steps refl refl exec0 word0
-
-built1 : (steps : ℕ) → is_built (state_with h1 steps) 0 ≡ true
-unfolding instruction_of row_of
-built1 steps = built-of_word h1 0x00700513 steps refl refl exec1 word1
-
-built2 : (steps : ℕ) → is_built (state_with h2 steps) 0 ≡ true
-unfolding instruction_of row_of
-built2 steps = built-of_word h2 0x00000073 steps refl refl exec2 word2
-
 does0 : (steps : ℕ) → act_of (state_with h0 steps) 0 ≡ Ordinary (state_with h1 steps)
 unfolding act_of changed close_frames
 does0 steps = ap (in_state (state_with h0 steps) 0) act0
@@ -156,12 +135,12 @@ ran_two =
 
 can_run_two : can_run (state_with h0 0) 0 2 ≡ true
 can_run_two =
-    can_run-ordinary (state_with h0 0) (state_with h1 0) 0 1 refl refl (built0 0) (does0 0)
-    (can_run-ordinary (state_with h1 1) (state_with h2 1) 0 0 refl refl (built1 1) (does1 1) (can_run-none (state_with h2 2) 0))
+    can_run-ordinary (state_with h0 0) (state_with h1 0) 0 1 refl refl (does0 0)
+    (can_run-ordinary (state_with h1 1) (state_with h2 1) 0 0 refl refl (does1 1) (can_run-none (state_with h2 2) 0))
 
 -- the history of the smallest program: two instructions, and an exit with 7
 pub smallest_program-is_a_run : IsRun (state_with h0 0) (Ran 0 2 ∷ Ended (Exit 0 7) ∷ [])
 smallest_program-is_a_run =
-    and_from _ _ (legal-Ran (state_with h0 0) 0 2 (built0 0) (omega arith) can_run_two)
+    and_from _ _ (legal-Ran (state_with h0 0) 0 2 refl (omega arith) can_run_two)
     (ap (λ s. is_run s (Ended (Exit 0 7) ∷ [])) ran_two
-    ∙ and_from _ _ (legal-Exit (state_with h2 2) 0 7 (built2 2) (does2 2)) refl)
+    ∙ and_from _ _ (legal-Exit (state_with h2 2) 0 7 refl (does2 2)) refl)

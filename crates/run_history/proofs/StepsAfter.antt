@@ -10,7 +10,6 @@ use Rattle.guest_words.specs.Endings.{is_budget_spent, record_bytes}
 use Rattle.guest_words.specs.State.{State, enter, frames_at}
 use Rattle.run_history.specs.declared.entry.Entry.{Entry, Ran, Entered, Called, Rescued', Ended, Row_of-Entry, end_of-Entry, more_of-Entry}
 use Rattle.run_history.specs.After.{after, after_row, called, moved, next, placed, ran, read_place, rescued_from, state_after, with_record}
-use Rattle.run_history.specs.Built.{is_built}
 use Rattle.run_history.specs.Counts.{steps_of, steps_of_row, steps_of_all}
 use Rattle.run_history.specs.Legal.{can_go, can_run, is_arrival, is_of, is_ordinary, is_ready_at, legal, legal_inside, legal_row, may_act}
 use Rattle.run_history.specs.Run.{is_run}
@@ -32,7 +31,7 @@ next_steps s h is = by (act_of s h) is
 
 -- a hart that can go on makes an ordinary act
 pub can_ordinary : (s : State) (h : ℕ) → can_go s h ≡ true → is_ordinary (act_of s h) ≡ true
-can_ordinary s h goes = and_right (not (is_budget_spent s) && is_ready_at s h && is_built s h) (is_ordinary (act_of s h)) goes
+can_ordinary s h goes = and_right (not (is_budget_spent s) && is_ready_at s h) (is_ordinary (act_of s h)) goes
 
 pub ran_steps : (s : State) (h n : ℕ) → can_run s h n ≡ true → (ran s h n).steps ≡ s.steps + n
 unfolding ran can_run
@@ -89,14 +88,14 @@ step_left s is within = by (s.steps == s.budget) refl is
 
 -- and so has one in which a hart may act
 pub may_step : (s : State) (h : ℕ) → may_act s h ≡ true → s.steps ≤ s.budget → s.steps < s.budget
-may_step s h may within = step_left s (and_right _ _ (and_left _ _ (and_left _ _ (and_left _ _ may)))) within
+may_step s h may within = step_left s (and_right _ _ (and_left _ _ (and_left _ _ may))) within
 
 pub ran_within : (s : State) (h n : ℕ) → can_run s h n ≡ true → s.steps ≤ s.budget → s.steps + n ≤ s.budget
 unfolding can_run
 ran_within s h zero is within = omega (arith, within)
 ran_within s h (suc n) is within =
     let here = and_left (can_go s h) (can_run (next s h) h n) is in
-    let fresh = and_left _ _ (and_left _ _ (and_left _ _ here)) in
+    let fresh = and_left _ _ (and_left _ _ here) in
     let one = next_steps s h (can_ordinary s h here) in
     let less = step_left s fresh within in
     let kept = ap (λ (r : Rest). r.budget) (next_keeps s h) in

@@ -112,7 +112,7 @@ module _ (h : ℕ) (R : State → State → Type 0) (own : OwnChanges h R) where
         let t : State = record s { slots = readied (woken place most s.waiting) s.slots } in
         joined s t _ (readied_by s (woken place most s.waiting)) (own.rest t t.memory t.brk (unwoken place most s.waiting) t.next_tid t.steps)
 
-    cleared_by : (s : State) (place : ℕ) → R s (cleared s place)
+    pub cleared_by : (s : State) (place : ℕ) → R s (cleared s place)
     cleared_by s place =
         let t : State = stored s place (low_bytes 4 0) in
         if_by (R s) (not (place == 0) && can_write s.memory place 4) _ _ (λ e. joined s t _ (stored_by s place (low_bytes 4 0)) (roused_by t place 1)) (λ e. own.same s)

@@ -11,7 +11,6 @@ use Rattle.guest_words.specs.CallChanges.{each_other}
 use Rattle.guest_words.specs.Act.{StateAct, Ordinary, Arrival, act_of, fits}
 use Rattle.guest_words.specs.Endings.{is_budget_spent, faults, ends_by}
 use Rattle.run_history.specs.declared.entry.Entry.{Entry, Ran, Entered, Called, Rescued', Ended, Row_of-Entry, end_of-Entry, more_of-Entry}
-use Rattle.run_history.specs.Built.{is_built}
 use Rattle.run_history.specs.After.{next, after, after_row, state_after}
 
 abbrev pub is_ordinary : StateAct → Bool
@@ -37,14 +36,13 @@ is_alone s h = each_other (λ slot. length slot.frames == 0) h s.slots
 abbrev pub is_going : State → Bool
 is_going s = is_none s.ending && not (is_budget_spent s)
 
--- a hart may act: the run goes on, it is ready, no other is under a point, and its act is built
+-- a hart may act: the run goes on, it is ready, and no other is under a point
 abbrev pub may_act : State → ℕ → Bool
-may_act s h = is_going s && is_ready_at s h && is_alone s h && is_built s h
+may_act s h = is_going s && is_ready_at s h && is_alone s h
 
 -- a hart can go on by an ordinary act
 abbrev pub can_go : State → ℕ → Bool
-can_go s h =
-    not (is_budget_spent s) && is_ready_at s h && is_built s h && is_ordinary (act_of s h)
+can_go s h = not (is_budget_spent s) && is_ready_at s h && is_ordinary (act_of s h)
 
 -- so many acts of a hart in a row are ordinary, and each finds it ready and the budget not spent
 unfoldable pub can_run : State → ℕ → ℕ → Bool
@@ -69,7 +67,7 @@ is_of h (Ended ending) = false
 -- a rescued call ends at its fault, in the frame that it opened over so many others
 abbrev pub ends_in : State → ℕ → FaultAt → ℕ → Bool
 ends_in s h fault frames =
-    (frames_at s h == frames + 1) && not (is_budget_spent s) && is_built s h && faults s h fault
+    (frames_at s h == frames + 1) && not (is_budget_spent s) && faults s h fault
 
 -- the licence of a rescue of a call that began in s, by whether its entries are legal, and by the
 -- state t that they give: the call, run from its entry by this hart alone, meets the fault

@@ -1,6 +1,5 @@
 pub mod After
 pub mod Ahead
-pub mod Built
 pub mod Counts
 pub mod Faults
 pub mod HistoryView
