@@ -43,7 +43,7 @@ lengthened_by n (e ∷ (f ∷ rest)) = e ∷ lengthened_by n (f ∷ rest)
 abbrev pub lengthened : List Entry → List Entry
 lengthened es = lengthened_by 1 es
 
--- a Ran of a hart behind entries: the last one is made longer where it can be, else one more goes last
+-- a Ran of a hart more: the last entry is made longer where it can be, else a Ran goes last
 abbrev pub with_ran : ℕ → ℕ → List Entry → List Entry
 with_ran h n es = if ends_in_ran_of h n es then lengthened_by n es else es ++ Ran h n ∷ []
 
