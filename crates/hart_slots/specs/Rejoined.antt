@@ -1,5 +1,5 @@
 -- Harts and their frames, put together and taken apart.
-use Rattle.std.specs.Prelude.{ℕ, ◌-◌, List, [], ◌∷◌, take, length, Option, Some, None}
+use Rattle.std.specs.Prelude.{◌-◌, List, [], ◌∷◌, take, length, Option, Some, None}
 use Rattle.guest_words.specs.declared.hart.Frame.{Frame}
 use Rattle.guest_words.specs.declared.hart.Hart.{Hart}
 use Rattle.guest_words.specs.declared.hart.Slot.{Slot}
