@@ -117,7 +117,7 @@ impl Engine {
             budget: self.budget,
             records: self.records.same(),
             bytes: self.bytes,
-            closed: self.closed.as_slice().to_vec(alloc)?,
+            closed: copied(alloc, &self.closed)?,
         })
     }
 }
@@ -130,4 +130,10 @@ fn all_open(alloc: Global, ports: u64) -> Result<Vec<bool>, MemoryWant>
         return Err(MemoryWant);
     };
     Ok(vec![in alloc; false; count as usize]?)
+}
+
+fn copied(alloc: Global, closed: &Vec<bool>) -> Result<Vec<bool>, MemoryWant>
+    ensures ok { IfOk result (λ copy. copy.items ≡ closed.now.items) }
+{
+    Ok(closed.as_slice().to_vec(alloc)?)
 }

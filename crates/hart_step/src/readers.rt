@@ -1,5 +1,5 @@
 //! What can be read of the state. No call here takes memory, but for `bytes_at`.
-ghost use Rattle.std.specs.Prelude.{◌≡◌, ◌≤◌, ◌==◌, length, slice_get, IfOk};
+ghost use Rattle.std.specs.Prelude.{◌≡◌, ◌+◌, ◌^◌, ◌≤◌, ◌==◌, length, slice_get, IfOk};
 ghost use Rattle.std.specs.Option.{option_copied, option_map};
 ghost use Rattle.guest_words.specs.CallChanges.{each_other};
 ghost use Rattle.guest_words.specs.declared.limits.TheConstants.{BUDGET, HARTS};
@@ -146,6 +146,29 @@ impl Engine {
     pub fn bytes_at(&self, alloc: Global, place: u64, count: u32) -> Result<Bytes, MemoryWant>
         ensures ok { IfOk result (λ bytes. bytes ≡ bytes_at self.now.state.memory place count) }
     {
-        self.guest.memory().bytes_at(alloc, place, count)
+        if u64::from(count) <= u64::MAX - place {
+            self.guest.memory().bytes_at(alloc, place, count)
+        } else {
+            bytes_to_end(alloc, self.guest.memory(), place, count)
+        }
     }
+}
+
+// Where a range passes the last address: behind that no page lies.
+fn bytes_to_end(
+    alloc: Global,
+    memory: &Memory,
+    place: u64,
+    count: u32,
+) -> Result<Bytes, MemoryWant>
+    requires past { 2 ^ 64 ≤ place + count }
+    ensures ok { IfOk result (λ bytes. bytes ≡ bytes_at memory.now.space place count) }
+{
+    let None = memory.page_from(u64::MAX) else {
+        unreachable!();
+    };
+    let there = u64::MAX - place + 1;
+    let mut bytes = memory.bytes_at(alloc, place, there as u32)?.into_vec();
+    bytes.resize(count as usize, 0)?;
+    Ok(Bytes::of(bytes))
 }

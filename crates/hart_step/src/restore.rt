@@ -25,11 +25,8 @@ impl Restore for Guest {
     }
 
     fn put_page(&mut self, page: Page) {
-        let sealed = !page.rights.exec;
         Restore::put_page(&mut self.memory, page);
-        if !sealed {
-            forget(&mut self.table);
-        }
+        forget(&mut self.table);
     }
 
     fn put_break(&mut self, old: u64) {

@@ -1,31 +1,32 @@
-use Rattle.std.proofs.Common.{rules, ◌≡◌, ◌+◌, ◌≤◌, true, false, length, map, slice_get, Some, IfOk, OnErr, OnOk, ℕ, ◌-◌, ◌*◌, ◌<◌, ◌/◌, ◌%◌, Bool, nat_eq, nat_lt, List, [], ◌∷◌, ◌++◌, slice_index_or, slice_set, bit_and, bit_or, Fits, w8, w32, w64, Bor, MutBor}
-use Rattle.std.specs.Option.{option_map}
-use Rattle.guest_words.specs.Act.{act_of, fits}
-use Rattle.guest_words.specs.Endings.{is_budget_spent}
+use Rattle.std.proofs.Common.{◌≡◌, ◌∙◌, List, sym, ap}
+use Rattle.guest_words.specs.declared.hart.Slot.{Slot}
 use Rattle.guest_words.specs.Harts.{unreserved}
-use Rattle.guest_words.specs.Space.{can_write}
-use Rattle.guest_words.specs.State.{changed, closed, enter, on_each, on_hart}
-use Rattle.guest_memory.specs.Noting.{Notes}
-use Rattle.hart_slots.specs.Rejoined.{hart_of}
-use Rattle.run_history.specs.After.{called, given_back, rescued_from}
-use Rattle.undo_log.specs.Undo.{gone_in}
-use Rattle.hart_step.specs.Answers.{place_named, read_into, read_over, shut_by}
-use Rattle.hart_step.specs.Live.{space_of}
-use Rattle.hart_step.specs.Returns.{rolled_back, space_before, CanReturn}
+use Rattle.guest_words.specs.State.{enter, on_each}
+use Rattle.hart_step.specs.contracts.engine.Engine.{the_view}
+use Rattle.hart_step.specs.Live.{Live}
+use Rattle.hart_step.proofs.HartStates.{states, states-opened, states-unreserved, waits-states}
 use Rattle.hart_step.proofs.engine.Engine.enter.Goals as goal
 
--- src/serving.rt:53:9
-pub open-requires : goal.open-requires
-open-requires c = ?
-
--- src/serving.rt:54:9
-pub unreserve-requires : goal.unreserve-requires
-unreserve-requires c = ?
-
--- src/serving.rt:47:5
 pub invariant_of-self-2 : goal.invariant_of-self-2
-invariant_of-self-2 c = ?
+invariant_of-self-2 c =
+    let e = c.self.inside in
+    let kept = c.self.invariant in
+    let same : states c.unreserve.new.self ≡ states e.slots =
+        ap states c.unreserve.ensures.value ∙ states-unreserved c.open.new.self ∙ ap states c.in_ok-open.ensures.ok ∙ states-opened c.args.point c.args.hart e.slots in
+    record {
+      heap = kept.heap;
+      waits = waits-states e.queue e.slots c.unreserve.new.self (sym same) kept.waits;
+      tid = kept.tid;
+      within = kept.within;
+      most = kept.most;
+      sum = kept.sum;
+      shut = kept.shut;
+    }
 
--- src/serving.rt:47:5
 pub returns-clause-ok : goal.returns-clause-ok
-returns-clause-ok c = ?
+unfolding enter
+returns-clause-ok c =
+    let live : Live = the_view c.self.inside in
+    let slots = c.unreserve.ensures.value ∙ ap (on_each unreserved) c.in_ok-open.ensures.ok in
+    ap (λ (xs : List Slot). record live { state = record live.state { slots = xs } }) slots
+    ∙ ap (λ (l : Live). record l { state = enter l.state c.args.hart c.args.point }) c.self.view_is

@@ -1,9 +1,10 @@
-use Rattle.std.proofs.Common.{rules, ◌≡◌, ◌+◌, ◌≤◌, true, length, IfOk, ℕ, ◌-◌, ◌*◌, ◌<◌, ◌/◌, ◌%◌, Bool, false, nat_eq, nat_lt, List, [], ◌∷◌, ◌++◌, slice_index_or, slice_set, bit_and, bit_or, Fits, w8, w32, w64, Bor, MutBor}
-use Rattle.guest_words.specs.Points.{spent}
-use Rattle.guest_words.specs.Space.{can_write, with_bytes}
-use Rattle.guest_memory.specs.Noting.{Notes}
+use Rattle.std.proofs.Common.{◌≡◌, sym, subst, List}
+use Rattle.guest_words.specs.declared.point.Point.{Point}
+use Rattle.hart_step.specs.Table.{IsTable}
+use Rattle.hart_step.proofs.Deactivated.{table-spent}
 use Rattle.hart_step.proofs.guest.Guest.spend.Goals as goal
 
--- src/guest_serving.rt:66:5
 pub invariant_of-self : goal.invariant_of-self
-invariant_of-self c = ?
+invariant_of-self c =
+    let guest = c.self.inside in
+    subst (λ (points : List Point). IsTable guest.memory.space points guest.table.items) (sym c.spend.ensures.value) (table-spent guest.memory.space guest.points c.args.entry guest.table.items c.self.invariant)
