@@ -26,7 +26,7 @@ use Rattle.run_history.proofs.CallCases.{ActCases, CallCases, act_of_by}
 use Rattle.run_history.proofs.InstCases.{InstCases, hart_act_by}
 use Rattle.run_history.proofs.Requests.{fits_short, request_servable}
 use Rattle.run_history.specs.Requests.{IsReached}
-use Rattle.hart_step.specs.Answers.{closed_with, place_in, place_named, read_into, read_over, shut_by, slots_with, space_with}
+use Rattle.hart_step.specs.DeviceAnswers.{closed_with, place_in, place_named, read_into, read_over, shut_by, slots_with, space_with}
 
 -- a call is the one that the hart's registers tell
 

@@ -21,7 +21,7 @@ use Rattle.run_history.proofs.StepsAfter.{step_left}
 use Rattle.undo_log.specs.declared.note.Note.{Note}
 use Rattle.undo_log.specs.declared.note.Note.TheVariants.{Bytes, Made, Gone, Break}
 use Rattle.undo_log.specs.Undo.{undone}
-use Rattle.hart_step.specs.Answers.{read_into, read_over, slots_with, space_with}
+use Rattle.hart_step.specs.DeviceAnswers.{read_into, read_over, slots_with, space_with}
 use Rattle.hart_step.specs.Ground.{Ground}
 use Rattle.hart_step.specs.Live.{IsHeapClear, Waits}
 use Rattle.hart_step.specs.Returns.{CanReturn}

@@ -48,9 +48,11 @@ impl Guest {
     pub(crate) fn fill(&mut self, from: u64, bytes: &[u8], log: &mut Log, noted: bool)
         requires writable { can_write self.old.memory.space from (length bytes.now) ≡ true }
         requires room { noted ≡ true → length bytes.now ≤ log.old.spare }
-        ensures value { self.new ≡ record self.old { memory = record self.old.memory {
-          space = with_bytes self.old.memory.space from bytes.now;
-        } } }
+        ensures value { self.new ≡ record self.old {
+          memory = record self.old.memory {
+            space = with_bytes self.old.memory.space from bytes.now;
+          };
+        } }
         ensures notes { Notes noted log.old.notes log.new.notes self.old.memory self.new.memory }
         ensures room { log.old.spare ≤ log.new.spare + length bytes.now }
     {

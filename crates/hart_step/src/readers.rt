@@ -155,12 +155,7 @@ impl Engine {
 }
 
 // Where a range passes the last address: behind that no page lies.
-fn bytes_to_end(
-    alloc: Global,
-    memory: &Memory,
-    place: u64,
-    count: u32,
-) -> Result<Bytes, MemoryWant>
+fn bytes_to_end(alloc: Global, memory: &Memory, place: u64, count: u32) -> Result<Bytes, MemoryWant>
     requires past { 2 ^ 64 ≤ place + count }
     ensures ok { IfOk result (λ bytes. bytes ≡ bytes_at memory.now.space place count) }
 {

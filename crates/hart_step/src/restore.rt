@@ -25,8 +25,11 @@ impl Restore for Guest {
     }
 
     fn put_page(&mut self, page: Page) {
+        let exec = page.rights.exec;
         Restore::put_page(&mut self.memory, page);
-        forget(&mut self.table);
+        if exec {
+            forget(&mut self.table);
+        }
     }
 
     fn put_break(&mut self, old: u64) {

@@ -1,5 +1,6 @@
 //! Changes of the state beside acts: entering a point, the answer of a device, a rescue, the end.
-ghost use Rattle.std.specs.Prelude.{◌≡◌, ◌+◌, ◌≤◌, true, false, length, map, slice_get, Some, IfOk, OnErr, OnOk};
+ghost use Rattle.std.specs.Prelude.{◌≡◌, ◌+◌, ◌≤◌, true, false, length, map, slice_get, Some};
+ghost use Rattle.std.specs.Prelude.{IfOk, OnErr, OnOk};
 ghost use Rattle.std.specs.Option.{option_map};
 ghost use Rattle.guest_words.specs.Act.{act_of, fits};
 ghost use Rattle.guest_words.specs.Endings.{is_budget_spent};
@@ -10,7 +11,7 @@ ghost use Rattle.guest_memory.specs.Noting.{Notes};
 ghost use Rattle.hart_slots.specs.Rejoined.{hart_of};
 ghost use Rattle.run_history.specs.After.{called, given_back, rescued_from};
 ghost use Rattle.undo_log.specs.Undo.{gone_in};
-ghost use Rattle.hart_step.specs.Answers.{place_named, read_into, read_over, shut_by};
+ghost use Rattle.hart_step.specs.DeviceAnswers.{place_named, read_into, read_over, shut_by};
 ghost use Rattle.hart_step.specs.Live.{space_of};
 ghost use Rattle.hart_step.specs.Returns.{rolled_back, space_before, CanReturn};
 
@@ -80,14 +81,7 @@ impl Engine {
     /// Puts back what was kept where a hart entered its innermost frame, and memory by the notes
     /// since then; the hart returns from the point for a fault, and the point has one rescue less.
     /// Takes no memory and is never refused.
-    pub fn take_back(
-        &mut self,
-        hart: u8,
-        kept: Checkpoint,
-        log: Log,
-        point: PointRef,
-        fault: Fault,
-    )
+    pub fn take_back(&mut self, hart: u8, kept: Checkpoint, log: Log, point: PointRef, fault: Fault)
         requires count { length kept.harts ≡ length self.old.state.slots }
         requires returns { CanReturn kept (space_before self.old log.notes) self.old.state.steps }
         requires room { gone_in log.notes ≤ self.old.spare }
@@ -172,9 +166,11 @@ fn put_read(
     requires writable { call.now.way ≡ Way.Read
         → can_write guest.old.memory.space place (length call.now.bytes) ≡ true }
     requires room { noted ≡ true → length call.now.bytes ≤ log.old.spare }
-    ensures memory { guest.new ≡ record guest.old { memory = record guest.old.memory {
-      space = read_into guest.old.memory.space place call.now;
-    } } }
+    ensures memory { guest.new ≡ record guest.old {
+      memory = record guest.old.memory {
+        space = read_into guest.old.memory.space place call.now;
+      };
+    } }
     ensures slots { slots.new ≡ read_over slots.old place call.now }
     ensures notes { Notes noted log.old.notes log.new.notes guest.old.memory guest.new.memory }
     ensures room { log.old.spare ≤ log.new.spare + length call.now.bytes }
@@ -191,7 +187,9 @@ fn shut(closed: &mut Vec<bool>, call: &Record)
     ensures value { closed.new.items ≡ shut_by call.now closed.old.items }
 {
     let port = call.port as usize;
-    if let Way::Close = call.way && port < closed.len() {
+    if let Way::Close = call.way
+        && port < closed.len()
+    {
         closed[port] = true;
     }
 }
@@ -199,7 +197,8 @@ fn shut(closed: &mut Vec<bool>, call: &Record)
 // Makes a hart return from its call, which ends all reservations and may close frames.
 fn give_back(slots: &mut Slots, hart: u8, code: Ret)
     ensures value { slots.new
-        ≡ changed closed hart (changed (on_hart (given_back code)) hart (on_each unreserved slots.old)) }
+        ≡ changed closed hart
+        (changed (on_hart (given_back code)) hart (on_each unreserved slots.old)) }
 {
     slots.unreserve();
     slots.give_back(hart, code);

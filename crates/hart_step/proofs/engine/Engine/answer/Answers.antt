@@ -11,7 +11,7 @@ use Rattle.guest_words.specs.Space.{can_write}
 use Rattle.guest_words.specs.State.{State, changed, closed, is_closed, on_hart}
 use Rattle.run_history.specs.After.{called}
 use Rattle.hart_step.specs.contracts.engine.Engine.{the_view}
-use Rattle.hart_step.specs.Answers.{read_over, shut_by}
+use Rattle.hart_step.specs.DeviceAnswers.{read_over, shut_by}
 use Rattle.hart_step.specs.Ground.{Ground}
 use Rattle.hart_step.specs.Live.{Live, IsHeapClear}
 use Rattle.hart_step.proofs.HartStates.{states, states-changed, states-closed, waits-states}
@@ -36,9 +36,9 @@ invariant_of-self c =
     let place = c.read_place-place.result in
     let left : is_budget_spent s ≡ false = subst (λ (l : Live). is_budget_spent l.state ≡ false) (sym c.self.view_is) c.requires.left in
     let same : states c.close.new.self ≡ states e.slots =
-        ap states c.close.ensures.value ∙ states-closed c.args.hart c.answer.new.self
-        ∙ ap states c.answer.ensures.value ∙ states-changed _ c.args.hart c.put_read.new.slots (λ slot. refl)
-        ∙ ap states c.put_read.ensures.slots ∙ states-read e.slots place call in
+    ap states c.close.ensures.value ∙ states-closed c.args.hart c.answer.new.self
+    ∙ ap states c.answer.ensures.value ∙ states-changed _ c.args.hart c.put_read.new.slots (λ slot. refl)
+    ∙ ap states c.put_read.ensures.slots ∙ states-read e.slots place call in
     let more : e.records.records ++ call ∷ [] ≡ c.then-self-inside.result.records = sym c.then-self-inside.ensures.more in
     record {
       heap = subst (λ (g : Ground). IsHeapClear g.memory) (sym c.put_read.ensures.memory) (heap_read e.guest.memory place call kept.heap);
@@ -63,11 +63,11 @@ returns-clause-after c =
     let fit : fits s (act_of s h) call ≡ true = subst (λ (l : Live). fits l.state (act_of l.state h) call ≡ true) (sym c.self.view_is) c.requires.fits in
     let signed : SFits w64 call.answer = search rules in
     let slots : c.close.new.self ≡ changed closed h (changed (on_hart (answered call.answer)) h (read_over e.slots place call)) =
-        c.close.ensures.value ∙ ap (changed closed h)
-        (c.answer.ensures.value ∙ ap (λ v. changed (on_hart (answered v)) h c.put_read.new.slots) (to_z-of_z w64 call.answer signed)
-        ∙ ap (changed (on_hart (answered call.answer)) h) c.put_read.ensures.slots) in
+    c.close.ensures.value ∙ ap (changed closed h)
+    (c.answer.ensures.value ∙ ap (λ v. changed (on_hart (answered v)) h c.put_read.new.slots) (to_z-of_z w64 call.answer signed)
+    ∙ ap (changed (on_hart (answered call.answer)) h) c.put_read.ensures.slots) in
     let build : Ground → List Slot → List Record → State = λ g xs rs.
-        record s { memory = g.memory.space; low = g.memory.low; brk = g.memory.brk; points = g.points; slots = xs; records = rs; steps = s.steps + 1 } in
+    record s { memory = g.memory.space; low = g.memory.low; brk = g.memory.brk; points = g.points; slots = xs; records = rs; steps = s.steps + 1 } in
     (λ i. build (c.put_read.ensures.memory i) (slots i) (c.then-self-inside.ensures.more i))
     ∙ ap (λ (p : ℕ). called_parts s h p call) c.read_place-place.ensures.value
     ∙ called_by s h call fit

@@ -12,7 +12,7 @@ invariant_of-self-2 c =
     let e = c.self.inside in
     let kept = c.self.invariant in
     let same : states c.unreserve.new.self ≡ states e.slots =
-        ap states c.unreserve.ensures.value ∙ states-unreserved c.open.new.self ∙ ap states c.in_ok-open.ensures.ok ∙ states-opened c.args.point c.args.hart e.slots in
+    ap states c.unreserve.ensures.value ∙ states-unreserved c.open.new.self ∙ ap states c.in_ok-open.ensures.ok ∙ states-opened c.args.point c.args.hart e.slots in
     record {
       heap = kept.heap;
       waits = waits-states e.queue e.slots c.unreserve.new.self (sym same) kept.waits;

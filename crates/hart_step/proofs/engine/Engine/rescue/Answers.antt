@@ -46,9 +46,9 @@ returns c =
     let s : State = (the_view e).state in
     let t : State = (the_view c.later.inside).state in
     let build : Ground → List Slot → State = λ g xs.
-        record s { memory = g.memory.space; low = g.memory.low; brk = g.memory.brk; points = g.points; slots = xs; records = t.records; steps = t.steps } in
+    record s { memory = g.memory.space; low = g.memory.low; brk = g.memory.brk; points = g.points; slots = xs; records = t.records; steps = t.steps } in
     let code : c.code-code.result ≡ code_of e.guest.points c.args.point.entry c.args.fault.name =
-        c.code-code.ensures.value ∙ ap (λ (ps : List Point). code_of ps c.args.point.entry c.args.fault.name) c.points.ensures.value in
+    c.code-code.ensures.value ∙ ap (λ (ps : List Point). code_of ps c.args.point.entry c.args.fault.name) c.points.ensures.value in
     let slots = c.give_back.ensures.value ∙ ap (λ (ret : Ret). changed closed h (changed (on_hart (given_back ret)) h (on_each unreserved e.slots))) code in
     record {
       after = (λ i. build (ground-is c i) (slots i))

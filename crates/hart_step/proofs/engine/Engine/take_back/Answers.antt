@@ -34,9 +34,9 @@ invariant_of-self c =
     let count : length c.args.kept.harts ≡ length e.slots = c.requires.count ∙ sym (ap (λ (l : Live). length l.state.slots) c.self.view_is) in
     let again = changed reopened h (rejoined c.args.kept.harts e.slots) in
     let same : states c.give_back.new.slots ≡ states again =
-        ap states c.give_back.ensures.value ∙ states-back c.code-code.result h c.put_back.new.self ∙ ap states c.put_back.ensures.value in
+    ap states c.give_back.ensures.value ∙ states-back c.code-code.result h c.put_back.new.self ∙ ap states c.put_back.ensures.value in
     let waits : Waits c.args.kept.queue (map hart_of c.give_back.new.slots) =
-        waits-states c.args.kept.queue again c.give_back.new.slots (sym same) (waits-rejoined c.args.kept.queue c.args.kept.harts h e.slots count c.requires.returns.waits) in
+    waits-states c.args.kept.queue again c.give_back.new.slots (sym same) (waits-rejoined c.args.kept.queue c.args.kept.harts h e.slots count c.requires.returns.waits) in
     record {
       heap = subst IsHeapClear (sym (space-is c)) c.requires.returns.heap;
       waits = subst (λ (ws : List Waiter). Waits ws (map hart_of c.give_back.new.slots)) (sym c.restore.ensures.value) waits;
@@ -55,14 +55,14 @@ returns-clause-after c =
     let live : Live = the_view e in
     let notes = c.args.log.notes in
     let build : Ground → ℕ → List Slot → List Waiter → State = λ g low xs ws.
-        record live.state { memory = g.memory.space; low = low; brk = g.memory.brk; points = g.points; slots = xs; waiting = ws; next_tid = c.args.kept.next_tid } in
+    record live.state { memory = g.memory.space; low = low; brk = g.memory.brk; points = g.points; slots = xs; waiting = ws; next_tid = c.args.kept.next_tid } in
     let code : c.code-code.result ≡ code_of e.guest.points c.args.point.entry c.args.fault.name =
-        c.code-code.ensures.value ∙ ap (λ (ps : List Point). code_of ps c.args.point.entry c.args.fault.name) c.points.ensures.value in
+    c.code-code.ensures.value ∙ ap (λ (ps : List Point). code_of ps c.args.point.entry c.args.fault.name) c.points.ensures.value in
     let low : c.spend.new.self.memory.low ≡ e.guest.memory.low =
-        ap (λ (g : Ground). g.memory.low) (ground-is c) ∙ low-undone notes e.guest.memory in
+    ap (λ (g : Ground). g.memory.low) (ground-is c) ∙ low-undone notes e.guest.memory in
     let slots = c.give_back.ensures.value
-        ∙ ap (λ (ret : Ret). changed closed h (changed (on_hart (given_back ret)) h (on_each unreserved c.put_back.new.self))) code
-        ∙ ap (λ (xs : List Slot). changed closed h (changed (on_hart (given_back (code_of e.guest.points c.args.point.entry c.args.fault.name))) h (on_each unreserved xs))) c.put_back.ensures.value in
+    ∙ ap (λ (ret : Ret). changed closed h (changed (on_hart (given_back ret)) h (on_each unreserved c.put_back.new.self))) code
+    ∙ ap (λ (xs : List Slot). changed closed h (changed (on_hart (given_back (code_of e.guest.points c.args.point.entry c.args.fault.name))) h (on_each unreserved xs))) c.put_back.ensures.value in
     (λ i. build (ground-is c i) (low i) (slots i) (c.restore.ensures.value i))
     ∙ ap (λ (l : Live). rescued_from (rolled_back l h c.args.kept notes) h c.args.point c.args.fault l.state) c.self.view_is
 
