@@ -22,6 +22,7 @@ abbrev pub frames_of : Option Slot → List Frame
 frames_of None = []
 frames_of (Some slot) = slot.frames
 
+-- the last of some frames
 abbrev pub last_of : List Frame → Option Frame
 last_of [] = None
 last_of (frame ∷ []) = Some frame

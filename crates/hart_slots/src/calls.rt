@@ -1,7 +1,8 @@
 ghost use Rattle.std.specs.Prelude.{◌≡◌, List, slice_get};
 ghost use Rattle.guest_words.specs.declared.hart.Waiter.{Waiter};
 ghost use Rattle.guest_words.specs.State.{changed, on_hart};
-ghost use Rattle.guest_words.specs.CallChanges.{answered, asleep, child_slot, departed, readied, with_child};
+ghost use Rattle.guest_words.specs.CallChanges.{answered, asleep, departed, readied};
+ghost use Rattle.guest_words.specs.CallChanges.{child_slot, with_child};
 ghost use Rattle.run_history.specs.After.{given_back};
 ghost use Rattle.futex_table.specs.Slots.{MarksSlots};
 

@@ -1,4 +1,5 @@
-ghost use Rattle.std.specs.Prelude.{◌≡◌, ◌<◌, [], ◌∷◌, ◌++◌, Some, length, take, slice_get, OnOk, OnErr};
+ghost use Rattle.std.specs.Prelude.{◌≡◌, ◌<◌, [], ◌∷◌, ◌++◌, Some, OnOk, OnErr};
+ghost use Rattle.std.specs.Prelude.{length, take, slice_get};
 ghost use Rattle.std.specs.Borrow.{sem};
 ghost use Rattle.std.specs.Option.{option_map};
 ghost use Rattle.guest_words.specs.Harts.{opened, touched, unreserved};
@@ -51,7 +52,8 @@ impl Slots {
 
     /// Puts a frame inside the others of the hart in a slot. After an Err nothing has changed.
     fn push_frame(&mut self, h: u8, frame: Frame) -> Result<(), MemoryWant>
-        ensures ok { OnOk result (self.new ≡ changed (on_frames (λ frames. frames ++ frame ∷ [])) h self.old) }
+        ensures ok { OnOk result (self.new
+            ≡ changed (on_frames (λ frames. frames ++ frame ∷ [])) h self.old) }
         ensures err { OnErr result (self.new ≡ self.old) }
     {
         push_at(&mut self.frames, h as usize, frame)?;
@@ -76,8 +78,8 @@ impl Slots {
         Ok(())
     }
 
-    /// Ends the reservations that a store of so many bytes from an address on touches. Costs next to
-    /// nothing where no hart has one.
+    /// Ends the reservations that a store of so many bytes from an address on touches. Costs next
+    /// to nothing where no hart has one.
     #[inline]
     pub fn touch(&mut self, from: u64, size: u64)
         ensures value { self.new ≡ on_each (touched from size) self.old }

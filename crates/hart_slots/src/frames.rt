@@ -1,4 +1,5 @@
-ghost use Rattle.std.specs.Prelude.{◌≡◌, ◌+◌, ◌==◌, ◌&&◌, ◌∷◌, ◌++◌, [], List, length, take, drop, slice_index_or, slice_set, OnOk, OnErr};
+ghost use Rattle.std.specs.Prelude.{◌≡◌, ◌+◌, ◌==◌, ◌&&◌, ◌∷◌, ◌++◌, [], OnOk, OnErr};
+ghost use Rattle.std.specs.Prelude.{List, length, take, drop, slice_index_or, slice_set};
 ghost use Rattle.std.specs.List.{list_all};
 ghost use Rattle.guest_words.specs.declared.hart.Frame.{Frame};
 ghost use Rattle.hart_slots.specs.Rejoined.{last_of};
@@ -7,6 +8,7 @@ use crate::places::{before, behind};
 use guest_words::{Frame, Frames, MemoryWant};
 
 /// The frames in a slot, none where it isn't there.
+#[inline]
 pub(crate) fn frames_at(frames: &[Frames], h: usize) -> &[Frame]
     ensures value { result.now ≡ slice_index_or frames.now h [] }
 {
@@ -17,6 +19,7 @@ pub(crate) fn frames_at(frames: &[Frames], h: usize) -> &[Frame]
 }
 
 /// The innermost of a hart's frames.
+#[inline]
 pub(crate) fn innermost(frames: &[Frame]) -> Option<Frame>
     ensures value { result ≡ last_of frames.now }
 {

@@ -1,4 +1,5 @@
-ghost use Rattle.std.specs.Prelude.{◌≡◌, ◌+◌, ◌≤◌, ◌||◌, ℕ, false, length, take, drop, slice_get, slice_index_or, slice_set};
+ghost use Rattle.std.specs.Prelude.{◌≡◌, ◌+◌, ◌≤◌, ◌||◌, ℕ, false};
+ghost use Rattle.std.specs.Prelude.{length, take, drop, slice_get, slice_index_or, slice_set};
 ghost use Rattle.std.specs.List.{list_any, position_from};
 ghost use Rattle.std.specs.Option.{option_copied, option_map};
 ghost use Rattle.guest_words.specs.Harts.{is_free, is_ready};
@@ -10,6 +11,7 @@ use guest_atomics::Harts;
 use guest_words::{Hart, HartState};
 
 /// The hart in a slot.
+#[inline]
 pub(crate) fn hart_at(harts: &[Hart], h: usize) -> Option<&Hart>
     ensures value { option_copied result ≡ slice_get harts.now h }
 {

@@ -11,5 +11,7 @@ mod queries;
 mod readers;
 mod registers;
 mod slots;
+#[cfg(test)]
+mod tests;
 
 pub use slots::Slots;

@@ -49,8 +49,8 @@ impl Slots {
         first_free(self.harts.items())
     }
 
-    /// Whether no hart but, maybe, the one in a slot has a reservation; false where that isn't known
-    /// at once.
+    /// Whether no hart but, maybe, the one in a slot has a reservation; false where that isn't
+    /// known at once.
     #[inline(always)]
     pub fn is_free_but(&self, h: u8) -> bool
         ensures free { result ≡ true → IsFreeBut h (map hart_of self.now) }

@@ -20,6 +20,7 @@ impl Slots {
     }
 
     /// The harts, by slot.
+    #[inline]
     pub fn harts(&self) -> &Harts
         ensures value { result.now ≡ map hart_of self.now }
     {
@@ -27,6 +28,7 @@ impl Slots {
     }
 
     /// The hart in a slot.
+    #[inline]
     pub fn hart(&self, h: u8) -> Option<&Hart>
         ensures value { option_copied result ≡ option_map hart_of (slice_get self.now h) }
     {
@@ -34,6 +36,7 @@ impl Slots {
     }
 
     /// The open frames of the hart in a slot, the innermost last; none where no slot is.
+    #[inline]
     pub fn frames(&self, h: u8) -> &[Frame]
         ensures value { result.now ≡ frames_of (slice_get self.now h) }
     {
