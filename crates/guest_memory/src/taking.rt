@@ -1,4 +1,5 @@
-ghost use Rattle.std.specs.Prelude.{◌≡◌, ◌+◌, ◌-◌, ◌*◌, ◌%◌, ◌<◌, ◌≤◌, ◌^◌, IfNone, IfSome, IsSome, true};
+ghost use Rattle.std.specs.Prelude.{◌≡◌, ◌+◌, ◌-◌, ◌*◌, ◌%◌, ◌<◌, ◌≤◌, ◌^◌};
+ghost use Rattle.std.specs.Prelude.{IfNone, IfSome, IsSome, true};
 ghost use Rattle.std.specs.FinMap as map;
 ghost use Rattle.guest_words.specs.Space.{without};
 ghost use Rattle.guest_pages.specs.Stretch.{IsFree, IsNextPage};
