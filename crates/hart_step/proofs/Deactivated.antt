@@ -1,9 +1,7 @@
 -- What a table tells stays true where points become inactive, and where the text stays.
-use Rattle.std.proofs.Common.{◌≡◌, ℕ, ◌-◌, Bool, true, false, not, ◌&&◌, ◌==◌, cond, if◌then◌else◌, List, [], ◌∷◌, map, find, get_or, ap, sym, ◌∙◌, refl, Option, Some, None, option_map, arith}
+use Rattle.std.proofs.Common.{◌≡◌, ℕ, ◌-◌, Bool, true, false, not, ◌&&◌, ◌==◌, cond, if◌then◌else◌, List, [], ◌∷◌, find, get_or, ap, ◌∙◌, refl, Option, Some, None, option_map, arith}
 use Rattle.std.proofs.lemmas.Bool.Decides.{nat_tests}
-use Rattle.guest_words.specs.declared.point.Kind.{Kind}
 use Rattle.guest_words.specs.declared.point.Point.{Point}
-use Rattle.guest_words.specs.declared.point.PointRef.{PointRef}
 use Rattle.guest_words.specs.Points.{active_at, is_active, is_on, is_spent, reference_of, spent, spent_at, spent_once}
 use Rattle.guest_words.specs.Space.{Space}
 use Rattle.guest_memory.specs.Text.{SameText}

@@ -1,12 +1,10 @@
 -- Calls on devices: where a read puts its bytes, and what the state is behind it.
-use Rattle.std.proofs.Common.{◌≡◌, ◌≢◌, inl, inr, ℕ, zero, suc, ◌+◌, ◌-◌, ◌^◌, ◌<◌, ◌≤◌, Bool, true, false, ◌&&◌, ◌||◌, ◌==◌, nat_le, if◌then◌else◌, List, [], ◌∷◌, ◌++◌, length, get_or, set, min, ap, sym, ◌∙◌, refl, subst, Option, Some, None, option_map, slice_get, sum_by, arith}
+use Rattle.std.proofs.Common.{◌≡◌, ◌≢◌, inl, inr, ℕ, zero, suc, ◌+◌, ◌-◌, ◌^◌, ◌≤◌, Bool, true, false, ◌&&◌, ◌||◌, ◌==◌, nat_le, if◌then◌else◌, List, [], ◌∷◌, ◌++◌, length, set, min, ap, sym, ◌∙◌, refl, subst, Option, Some, option_map, slice_get, sum_by, arith}
 use Rattle.std.proofs.lemmas.Bool.Decides.{nat_tests, eqb_tells}
 use Rattle.std.proofs.lemmas.List.Sums.{sum_by_push}
-use Rattle.std.specs.List.{list_all, list_any, range_with_len}
 use Rattle.guest_words.specs.declared.act.Act.{Act}
 use Rattle.guest_words.specs.declared.act.Act.TheVariants as act
 use Rattle.guest_words.specs.declared.call.Request.{Request as Call}
-use Rattle.guest_words.specs.declared.call.Request.TheVariants as request
 use Rattle.guest_words.specs.declared.hart.Hart.{Hart}
 use Rattle.guest_words.specs.declared.hart.Slot.{Slot}
 use Rattle.guest_words.specs.declared.image.Rights.{Rights}
@@ -22,10 +20,9 @@ use Rattle.guest_words.specs.State.{State, changed, closed, is_close, is_closed,
 use Rattle.hart_slots.specs.Rejoined.{hart_of}
 use Rattle.run_history.specs.After.{called, placed, read_place, with_record}
 use Rattle.run_history.proofs.Ands.{and_left, and_right}
-use Rattle.run_history.proofs.CallCases.{ActCases, CallCases, act_of_by}
-use Rattle.run_history.proofs.InstCases.{InstCases, hart_act_by}
+use Rattle.run_history.proofs.CallCases.{CallCases, act_of_by}
+use Rattle.run_history.proofs.InstCases.{hart_act_by}
 use Rattle.run_history.proofs.Requests.{fits_short, request_servable}
-use Rattle.run_history.specs.Requests.{IsReached}
 use Rattle.hart_step.specs.DeviceAnswers.{closed_with, place_in, place_named, read_into, read_over, shut_by, slots_with, space_with}
 
 -- a call is the one that the hart's registers tell

@@ -9,12 +9,11 @@ use Rattle.guest_words.specs.declared.hart.Waiter.{Waiter}
 use Rattle.guest_words.specs.declared.point.PointRef.{PointRef}
 use Rattle.guest_words.specs.declared.point.Ret.{Ret}
 use Rattle.guest_words.specs.declared.point.Ret.TheVariants.{Code, Void}
-use Rattle.guest_words.specs.CallChanges.{answered}
 use Rattle.guest_words.specs.Harts.{opened, unreserved}
 use Rattle.guest_words.specs.State.{changed, changed_by, closed, on_each, on_hart}
 use Rattle.hart_slots.specs.Rejoined.{hart_of, rejoined, reopened}
 use Rattle.run_history.specs.After.{given_back}
-use Rattle.hart_step.specs.Live.{WaitsAt, Waits}
+use Rattle.hart_step.specs.Live.{Waits}
 
 abbrev pub state_of : Slot → HartState
 state_of slot = slot.hart.state

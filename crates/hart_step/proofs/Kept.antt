@@ -1,5 +1,5 @@
 -- What the executable state keeps, over its changes.
-use Rattle.std.proofs.Common.{◌≡◌, ℕ, ◌+◌, ◌-◌, ◌%◌, ◌<◌, ◌≤◌, ◌^◌, Bool, true, false, not, if◌then◌else◌, List, [], ◌∷◌, length, map, ap, sym, ◌∙◌, refl, subst, Result, Ok, Err, IfOk, Some, slice_get, replicate, arith}
+use Rattle.std.proofs.Common.{◌≡◌, ℕ, ◌+◌, ◌-◌, ◌%◌, ◌<◌, ◌≤◌, Bool, true, false, not, if◌then◌else◌, List, [], ◌∷◌, length, ap, sym, ◌∙◌, refl, subst, Result, Ok, Err, IfOk, Some, slice_get, replicate, arith}
 use Rattle.std.proofs.lemmas.List.{get_or-replicate, length-replicate}
 use Rattle.std.proofs.lemmas.Option.{slice_get-get_or}
 use Rattle.guest_words.specs.declared.hart.Hart.{Hart}
@@ -10,7 +10,7 @@ use Rattle.guest_words.specs.declared.record.Way.{Way}
 use Rattle.guest_words.specs.declared.record.Way.TheVariants as way
 use Rattle.guest_words.specs.Endings.{is_budget_spent}
 use Rattle.guest_words.specs.Harts.{touched}
-use Rattle.guest_words.specs.State.{State, on_each, on_hart}
+use Rattle.guest_words.specs.State.{State, on_hart}
 use Rattle.checkpoints.specs.declared.checkpoint.Checkpoint.{Checkpoint}
 use Rattle.guest_pages.specs.Paged.{with_page}
 use Rattle.guest_pages.specs.Stretch.{IsFree}

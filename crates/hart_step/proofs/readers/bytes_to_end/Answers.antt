@@ -1,4 +1,4 @@
-use Rattle.std.proofs.Common.{◌≡◌, ◌+◌, ◌-◌, ◌∙◌, ◌++◌, ◌^◌, ◌≤◌, ℕ, List, length, replicate, take, ap, arith}
+use Rattle.std.proofs.Common.{◌≡◌, ◌+◌, ◌-◌, ◌∙◌, ◌++◌, ◌^◌, ◌≤◌, ℕ, length, replicate, ap, arith}
 use Rattle.std.proofs.lemmas.List.{take_all}
 use Rattle.guest_words.specs.Space.{bytes_at}
 use Rattle.run_history.proofs.ByteLengths.{length-bytes_at}

@@ -11,7 +11,7 @@ use Rattle.hart_slots.specs.Rejoined.{hart_of, rejoined, reopened}
 use Rattle.run_history.specs.After.{given_back, rescued_from}
 use Rattle.hart_step.specs.contracts.engine.Engine.{the_view}
 use Rattle.hart_step.specs.Ground.{Ground}
-use Rattle.hart_step.specs.Live.{Live, IsHeapClear, Waits, space_of}
+use Rattle.hart_step.specs.Live.{Live, IsHeapClear, Waits}
 use Rattle.hart_step.specs.Returns.{rolled_back, space_before}
 use Rattle.hart_step.proofs.HartStates.{states, states-back, waits-rejoined, waits-states}
 use Rattle.hart_step.proofs.Kept.{low-undone, undone-ground}

@@ -1,4 +1,4 @@
-use Rattle.std.proofs.Common.{◌≡◌, sym, subst, List}
+use Rattle.std.proofs.Common.{sym, subst, List}
 use Rattle.guest_words.specs.declared.point.Point.{Point}
 use Rattle.hart_step.specs.Table.{IsTable}
 use Rattle.hart_step.proofs.Deactivated.{table-spent}
