@@ -1,17 +1,15 @@
 -- A call that is taken back: what was kept and its notes give the state in which it was entered, and
 -- one entry may stand for all that it did.
-use Rattle.std.proofs.Common.{◌≡◌, ◌≢◌, ℕ, zero, suc, ◌+◌, ◌-◌, Bool, true, false, List, [], ◌∷◌, ◌++◌, length, map, take, Option, Some, None, refl, ap, sym, ◌∙◌, slice_get, arith}
+use Rattle.std.proofs.Common.{◌≡◌, ◌≢◌, ℕ, zero, suc, ◌+◌, ◌-◌, true, false, List, [], ◌∷◌, ◌++◌, length, map, take, Option, Some, None, refl, ap, sym, ◌∙◌, slice_get, arith}
 use Rattle.std.proofs.lemmas.List.{length-map}
 use Rattle.guest_words.specs.declared.fault.Fault.{Fault as FaultAt}
 use Rattle.guest_words.specs.declared.hart.Frame.{Frame}
-use Rattle.guest_words.specs.declared.hart.Hart.{Hart}
 use Rattle.guest_words.specs.declared.hart.Slot.{Slot}
 use Rattle.guest_words.specs.declared.point.PointRef.{PointRef}
 use Rattle.guest_words.specs.Endings.{faults, is_budget_spent}
 use Rattle.guest_words.specs.Harts.{unreserved}
 use Rattle.guest_words.specs.Points.{code_of, spent}
 use Rattle.guest_words.specs.State.{State, changed, changed_by, closed, enter, frame_count, frames_at, on_each, on_hart}
-use Rattle.checkpoints.specs.declared.checkpoint.Checkpoint.{Checkpoint}
 use Rattle.guest_memory.specs.Kept.{AddressSpace}
 use Rattle.guest_memory.specs.Returning.{put_back}
 use Rattle.hart_slots.specs.Rejoined.{frames_of, hart_of, rejoined, reopened}
@@ -24,7 +22,7 @@ use Rattle.run_history.specs.Legal.{is_alone, legal, legal_inside, may_act}
 use Rattle.run_history.proofs.Entries.{after-rescue, legal-Entered-may, legal-rescue, may-alone}
 use Rattle.run_history.proofs.Kept.{Rest, enter_keeps, legal_inside_ending, state_after_codes}
 use Rattle.run_history.proofs.Quietness.{alone_each}
-use Rattle.run_history.proofs.Staying.{Stays, entered_ending, entered_stays, state_after_stays, stays_both}
+use Rattle.run_history.proofs.Staying.{entered_ending, entered_stays, state_after_stays, stays_both}
 use Rattle.open_calls.specs.Nest.{Level, flat_from}
 use Rattle.open_calls.specs.Stacked.{Fact, IsOpen, IsSpaceOf, Keeps, Stacked, brought_back}
 use Rattle.open_calls.proofs.Frames.{call_below, frames_in}

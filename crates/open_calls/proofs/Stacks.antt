@@ -21,7 +21,7 @@ use Rattle.run_history.proofs.LastEntries.{with_acts-some}
 use Rattle.run_history.proofs.Longer.{is_run-lengthened, legal_inside-lengthened, state_after-lengthened}
 use Rattle.run_history.proofs.Nested.{legal_inside-entered}
 use Rattle.open_calls.specs.Nest.{Level, Nest, closing, flat_from, joined}
-use Rattle.open_calls.specs.Stacked.{Fact, IsOpen, IsSpaceOf, Keeps, Stacked}
+use Rattle.open_calls.specs.Stacked.{Fact, IsSpaceOf, Keeps, Stacked}
 
 module _ (Back : Fact) (start : State) (h : ℕ) where
   -- the innermost call closes

@@ -1,7 +1,7 @@
 use Rattle.std.proofs.Common.{◌≡◌, ◌+◌, ◌++◌, ◌∷◌, length, ap, sym, ◌∙◌, subst, arith, option_to_list}
 use Rattle.run_history.specs.declared.entry.Entry.{Entered}
 use Rattle.open_calls.specs.declared.part.Part.{Part}
-use Rattle.open_calls.specs.Nest.{Nest, Stack, closed_one}
+use Rattle.open_calls.specs.Nest.{Stack, closed_one}
 use Rattle.open_calls.specs.Rooms.{turned, level_of, levels, nest_of, Uses}
 use Rattle.open_calls.proofs.Filling.{popped_nest, popped_room, close_rooms}
 use Rattle.open_calls.proofs.calls.Calls.close.Goals as goal

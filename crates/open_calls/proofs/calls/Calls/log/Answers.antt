@@ -1,4 +1,4 @@
-use Rattle.std.proofs.Common.{◌≡◌, ◌+◌, ◌≤◌, ◌<◌, length, Some, ap, sym, ◌∙◌, slice_get, slice_index_or, arith}
+use Rattle.std.proofs.Common.{◌≡◌, ◌+◌, ◌≤◌, ◌<◌, length, Some, ap, sym, ◌∙◌, slice_get, arith}
 use Rattle.std.proofs.lemmas.Bool.Decides.{nat_tests}
 use Rattle.std.proofs.lemmas.Option.{slice_get-get_or}
 use Rattle.open_calls.specs.Nest.{Stack, notes_in}
@@ -9,7 +9,7 @@ use Rattle.open_calls.proofs.calls.Calls.log.Goals as goal
 pub returns-then-frame-depth : goal.returns-then-frame-depth
 returns-then-frame-depth c =
     let at = c.if-frame-depth.true in
-    let r = c.depth.ensures.value in
+    let r = c.depth-depth.ensures.value in
     let d = depth c.self.inside.outers.items in
     let v = ap (λ (s : Stack). length s.nest.outers) c.self.view_is in
     record {
@@ -20,7 +20,7 @@ returns-then-frame-depth c =
 pub unreachable-requires : goal.unreachable-requires
 unreachable-requires c =
     let l = ap length c.deref.ensures.value in
-    let r = c.depth.ensures.value in
+    let r = c.depth-depth.ensures.value in
     let d = depth c.self.inside.outers.items in
     let v = ap (λ (s : Stack). length s.nest.outers) c.self.view_is in
     let some = c.requires.open in

@@ -1,4 +1,4 @@
-use Rattle.std.proofs.Common.{◌<◌, ◌≤◌, ap, sym, ◌∙◌, subst, length, length-append, arith}
+use Rattle.std.proofs.Common.{◌<◌, ap, sym, subst, length, length-append, arith}
 use Rattle.open_calls.specs.declared.part.Part.{Part}
 use Rattle.open_calls.specs.Nest.{Stack}
 use Rattle.open_calls.specs.Rooms.{turned}
