@@ -67,14 +67,15 @@ notes_from frame (o ∷ os) ns =
 abbrev pub notes_in : ℕ → Nest → List Note
 notes_in frame n = notes_from frame n.outers n.notes
 
+-- what has been so far, as what encloses a further call
+abbrev pub enclosing : PointRef → Checkpoint → Nest → Level
+enclosing point kept n =
+    record { entries = n.entries; notes = n.notes; point = point; kept = kept }
+
 -- a call of a point opens
 abbrev pub opened : PointRef → Checkpoint → Nest → Nest
 opened point kept n =
-    record {
-      outers = record { entries = n.entries; notes = n.notes; point = point; kept = kept } ∷ n.outers;
-      entries = [];
-      notes = [];
-    }
+    record { outers = enclosing point kept n ∷ n.outers; entries = []; notes = [] }
 
 abbrev pub closed_first : ℕ → List Level → List Entry → List Note → Nest
 closed_first h [] es ns = record { outers = []; entries = es; notes = ns }

@@ -6,6 +6,8 @@ mod outer;
 mod part;
 mod room;
 mod taken;
+#[cfg(test)]
+mod tests;
 
 pub use calls::Calls;
 pub use part::Part;
