@@ -25,7 +25,7 @@ use Rattle.run_history.proofs.Quietness.{alone_each}
 use Rattle.run_history.proofs.Staying.{entered_ending, entered_stays, state_after_stays, stays_both}
 use Rattle.open_calls.specs.Nest.{Level, flat_from}
 use Rattle.open_calls.specs.Stacked.{Fact, IsOpen, IsSpaceOf, Keeps, Stacked, brought_back}
-use Rattle.open_calls.proofs.Frames.{call_below, frames_in}
+use Rattle.open_calls.proofs.Frames.{call_below, frames_in, length-frames_in}
 use Rattle.open_calls.proofs.Nests.{flat_push}
 use Rattle.open_calls.proofs.Stacks.{flat_run}
 
@@ -75,10 +75,6 @@ no_frames (Some slot) none = by slot.frames none
     by [] none = refl
     by (f ∷ fs) none = absurd (omega (arith, none))
 
-length-of : (o : Option Slot) → length (frames_of o) ≡ frame_count o
-length-of None = refl
-length-of (Some slot) = refl
-
 -- at the fault of a call, the harts as they were at its entering, each with its frames but for the
 -- one that the call opened, are the slots of then
 pub slots_before : (h : ℕ) (b t : State) (p : PointRef) (es : List Entry) → legal b (Entered h p) ≡ true → legal_inside (enter b h p) h (frames_at b h) es ≡ true
@@ -87,7 +83,7 @@ slots_before h b t p es enters goes reaches one alone =
     let count : length t.slots ≡ length b.slots =
     ap (λ (s : State). length s.slots) (sym reaches) ∙ (stays_both b (enter b h p) (state_after (enter b h p) es) (entered_stays b h p) (state_after_stays (enter b h p) es)).slots in
     let calm = may-alone b h (legal-Entered-may b h p enters) in
-    let l = length-of (slice_get t.slots h) in
+    let l = length-frames_in t h in
     let depth : length (frames_in t h) - 1 ≡ frames_at b h = omega (arith, l, one) in
     rejoined_but h b.slots t.slots count
     (λ k apart. no_frames (slice_get t.slots k) (alone_each h t.slots alone k apart) ∙ sym (no_frames (slice_get b.slots k) (alone_each h b.slots calm k apart)))
