@@ -1,5 +1,5 @@
 -- Each row of the table: the word that is made of an instruction in its format.
-use Rattle.std.proofs.Common.{◌≡◌, ℕ, ◌+◌, ◌*◌, ◌/◌, ◌%◌, ◌^◌, ◌<◌, ◌≤◌, List, [], ◌∷◌, refl, ap, sym, subst, ◌∙◌, arith, w32, pos}
+use Rattle.std.proofs.Common.{◌≡◌, ℕ, ◌+◌, ◌*◌, ◌%◌, ◌^◌, ◌<◌, ◌≤◌, List, [], ◌∷◌, refl, ap, sym, subst, ◌∙◌, arith, w32, pos}
 use Rattle.std.proofs.lemmas.Bool.Decides.{nat_tests}
 use Rattle.std.proofs.lemmas.Int.{ints}
 use Rattle.std.specs.Prelude.{Bool, true, false, ◌==◌, ◌&&◌}
@@ -9,10 +9,9 @@ use Rattle.guest_words.specs.Word.{sign_extended}
 use Rattle.guest_words.specs.Instructions.{bits, immediate_of, rd_of, rs1_of, rs2_of, read, Named, opcode, f3, f5, f6, f7, rs2, whole, has, Row, row, fits, table}
 use Rattle.guest_words.specs.declared.format.Format.{Format}
 use Rattle.guest_words.specs.declared.format.Format.TheVariants.{Upper, Jump, Immediate, Branch, Store, Shift, WordShift, Register, Bare}
-use Rattle.guest_words.specs.declared.inst.Inst.{Inst}
 use Rattle.guest_words.specs.declared.inst.Op.{Op}
 use Rattle.guest_words.specs.declared.inst.Op.TheVariants.{Lui, Auipc, Jal, Jalr, Beq, Bne, Blt, Bge, Bltu, Bgeu, Lb, Lh, Lw, Ld, Lbu, Lhu, Lwu, Sb, Sh, Sw, Sd, Addi, Slti, Sltiu, Xori, Ori, Andi, Slli, Srli, Srai, Addiw, Slliw, Srliw, Sraiw, Add, Sll, Slt, Sltu, Xor, Srl, Or, And, Sub, Sra, Mul, Mulh, Mulhsu, Mulhu, Div, Divu, Rem, Remu, Addw, Sllw, Srlw, Subw, Sraw, Mulw, Divw, Divuw, Remw, Remuw, Fence, Ecall, Ebreak, LrW, ScW, AmoswapW, AmoaddW, AmoxorW, AmoandW, AmoorW, AmominW, AmomaxW, AmominuW, AmomaxuW, LrD, ScD, AmoswapD, AmoaddD, AmoxorD, AmoandD, AmoorD, AmominD, AmomaxD, AmominuD, AmomaxuD}
-use Rattle.load_maker.specs.Encoding.{fields_at, form_of, imm_bits}
+use Rattle.load_maker.specs.Encoding.{fields_at, form_of}
 use Rattle.load_maker.proofs.Placed.{low_12, low_13, low_21, low_32}
 
 -- a word fits the row and is read as another word is, and isn't greater
@@ -280,92 +279,265 @@ EachIsMade [] = Unit {0}
 EachIsMade (r ∷ rs) = IsMade r × EachIsMade rs
 
 pub table-made : EachIsMade table
-table-made =
-    (upper Lui 0x37 refl,
-    (upper Auipc 0x17 refl,
-    (jump Jal 0x6f refl,
-    (immediate Jalr 0x67 0 refl,
-    (branch Beq 0x63 0 refl,
-    (branch Bne 0x63 1 refl,
-    (branch Blt 0x63 4 refl,
-    (branch Bge 0x63 5 refl,
-    (branch Bltu 0x63 6 refl,
-    (branch Bgeu 0x63 7 refl,
-    (immediate Lb 0x03 0 refl,
-    (immediate Lh 0x03 1 refl,
-    (immediate Lw 0x03 2 refl,
-    (immediate Ld 0x03 3 refl,
-    (immediate Lbu 0x03 4 refl,
-    (immediate Lhu 0x03 5 refl,
-    (immediate Lwu 0x03 6 refl,
-    (store Sb 0x23 0 refl,
-    (store Sh 0x23 1 refl,
-    (store Sw 0x23 2 refl,
-    (store Sd 0x23 3 refl,
-    (immediate Addi 0x13 0 refl,
-    (immediate Slti 0x13 2 refl,
-    (immediate Sltiu 0x13 3 refl,
-    (immediate Xori 0x13 4 refl,
-    (immediate Ori 0x13 6 refl,
-    (immediate Andi 0x13 7 refl,
-    (shift Slli 0x13 1 0x00 refl,
-    (shift Srli 0x13 5 0x00 refl,
-    (shift Srai 0x13 5 0x10 refl,
-    (immediate Addiw 0x1b 0 refl,
-    (word_shift Slliw 0x1b 1 0x00 refl,
-    (word_shift Srliw 0x1b 5 0x00 refl,
-    (word_shift Sraiw 0x1b 5 0x20 refl,
-    (register Add 0x33 0 0x00 refl,
-    (register Sll 0x33 1 0x00 refl,
-    (register Slt 0x33 2 0x00 refl,
-    (register Sltu 0x33 3 0x00 refl,
-    (register Xor 0x33 4 0x00 refl,
-    (register Srl 0x33 5 0x00 refl,
-    (register Or 0x33 6 0x00 refl,
-    (register And 0x33 7 0x00 refl,
-    (register Sub 0x33 0 0x20 refl,
-    (register Sra 0x33 5 0x20 refl,
-    (register Mul 0x33 0 0x01 refl,
-    (register Mulh 0x33 1 0x01 refl,
-    (register Mulhsu 0x33 2 0x01 refl,
-    (register Mulhu 0x33 3 0x01 refl,
-    (register Div 0x33 4 0x01 refl,
-    (register Divu 0x33 5 0x01 refl,
-    (register Rem 0x33 6 0x01 refl,
-    (register Remu 0x33 7 0x01 refl,
-    (register Addw 0x3b 0 0x00 refl,
-    (register Sllw 0x3b 1 0x00 refl,
-    (register Srlw 0x3b 5 0x00 refl,
-    (register Subw 0x3b 0 0x20 refl,
-    (register Sraw 0x3b 5 0x20 refl,
-    (register Mulw 0x3b 0 0x01 refl,
-    (register Divw 0x3b 4 0x01 refl,
-    (register Divuw 0x3b 5 0x01 refl,
-    (register Remw 0x3b 6 0x01 refl,
-    (register Remuw 0x3b 7 0x01 refl,
-    (fence,
-    (ecall,
-    (ebreak,
-    (reserve LrW 0x2f 2 0x02 refl,
-    (atomic ScW 0x2f 2 0x03 refl,
-    (atomic AmoswapW 0x2f 2 0x01 refl,
-    (atomic AmoaddW 0x2f 2 0x00 refl,
-    (atomic AmoxorW 0x2f 2 0x04 refl,
-    (atomic AmoandW 0x2f 2 0x0c refl,
-    (atomic AmoorW 0x2f 2 0x08 refl,
-    (atomic AmominW 0x2f 2 0x10 refl,
-    (atomic AmomaxW 0x2f 2 0x14 refl,
-    (atomic AmominuW 0x2f 2 0x18 refl,
-    (atomic AmomaxuW 0x2f 2 0x1c refl,
-    (reserve LrD 0x2f 3 0x02 refl,
-    (atomic ScD 0x2f 3 0x03 refl,
-    (atomic AmoswapD 0x2f 3 0x01 refl,
-    (atomic AmoaddD 0x2f 3 0x00 refl,
-    (atomic AmoxorD 0x2f 3 0x04 refl,
-    (atomic AmoandD 0x2f 3 0x0c refl,
-    (atomic AmoorD 0x2f 3 0x08 refl,
-    (atomic AmominD 0x2f 3 0x10 refl,
-    (atomic AmomaxD 0x2f 3 0x14 refl,
-    (atomic AmominuD 0x2f 3 0x18 refl,
-    (atomic AmomaxuD 0x2f 3 0x1c refl,
-    tt)))))))))))))))))))))))))))))))))))))))))))))))))))))))))))))))))))))))))))))))))))))))
+table-made = (
+  upper Lui 0x37 refl,
+  (
+    upper Auipc 0x17 refl,
+    (
+      jump Jal 0x6f refl,
+      (
+        immediate Jalr 0x67 0 refl,
+        (
+          branch Beq 0x63 0 refl,
+          (
+            branch Bne 0x63 1 refl,
+            (
+              branch Blt 0x63 4 refl,
+              (
+                branch Bge 0x63 5 refl,
+                (
+                  branch Bltu 0x63 6 refl,
+                  (
+                    branch Bgeu 0x63 7 refl,
+                    (
+                      immediate Lb 0x03 0 refl,
+                      (
+                        immediate Lh 0x03 1 refl,
+                        (
+                          immediate Lw 0x03 2 refl,
+                          (
+                            immediate Ld 0x03 3 refl,
+                            (
+                              immediate Lbu 0x03 4 refl,
+                              (
+                                immediate Lhu 0x03 5 refl,
+                                (
+                                  immediate Lwu 0x03 6 refl,
+                                  (
+                                    store Sb 0x23 0 refl,
+                                    (
+                                      store Sh 0x23 1 refl,
+                                      (
+                                        store Sw 0x23 2 refl,
+                                        (
+                                          store Sd 0x23 3 refl,
+                                          (
+                                            immediate Addi 0x13 0 refl,
+                                            (
+                                              immediate Slti 0x13 2 refl,
+                                              (
+                                                immediate Sltiu 0x13 3 refl,
+                                                (
+                                                  immediate Xori 0x13 4 refl,
+                                                  (
+                                                    immediate Ori 0x13 6 refl,
+                                                    (
+                                                      immediate Andi 0x13 7 refl,
+                                                      (
+                                                        shift Slli 0x13 1 0x00 refl,
+                                                        (
+                                                          shift Srli 0x13 5 0x00 refl,
+                                                          (
+                                                            shift Srai 0x13 5 0x10 refl,
+                                                            (
+                                                              immediate Addiw 0x1b 0 refl,
+                                                              (
+                                                                word_shift Slliw 0x1b 1 0x00 refl,
+                                                                (
+                                                                  word_shift Srliw 0x1b 5 0x00 refl,
+                                                                  (
+                                                                    word_shift Sraiw 0x1b 5 0x20 refl,
+                                                                    (
+                                                                      register Add 0x33 0 0x00 refl,
+                                                                      (
+                                                                        register Sll 0x33 1 0x00 refl,
+                                                                        (
+                                                                          register Slt 0x33 2 0x00 refl,
+                                                                          (
+                                                                            register Sltu 0x33 3 0x00 refl,
+                                                                            (
+                                                                              register Xor 0x33 4 0x00 refl,
+                                                                              (
+                                                                                register Srl 0x33 5 0x00 refl,
+                                                                                (
+                                                                                  register Or 0x33 6 0x00 refl,
+                                                                                  (
+                                                                                    register And 0x33 7 0x00 refl,
+                                                                                    (
+                                                                                      register Sub 0x33 0 0x20 refl,
+                                                                                      (
+                                                                                        register Sra 0x33 5 0x20 refl,
+                                                                                        (
+                                                                                          register Mul 0x33 0 0x01 refl,
+                                                                                          (
+                                                                                            register Mulh 0x33 1 0x01 refl,
+                                                                                            (
+                                                                                              register Mulhsu 0x33 2 0x01 refl,
+                                                                                              (
+                                                                                                register Mulhu 0x33 3 0x01 refl,
+                                                                                                (
+                                                                                                  register Div 0x33 4 0x01 refl,
+                                                                                                  (
+                                                                                                    register Divu 0x33 5 0x01 refl,
+                                                                                                    (
+                                                                                                      register Rem 0x33 6 0x01 refl,
+                                                                                                      (
+                                                                                                        register Remu 0x33 7 0x01 refl,
+                                                                                                        (
+                                                                                                          register Addw 0x3b 0 0x00 refl,
+                                                                                                          (
+                                                                                                            register Sllw 0x3b 1 0x00 refl,
+                                                                                                            (
+                                                                                                              register Srlw 0x3b 5 0x00 refl,
+                                                                                                              (
+                                                                                                                register Subw 0x3b 0 0x20 refl,
+                                                                                                                (
+                                                                                                                  register Sraw 0x3b 5 0x20 refl,
+                                                                                                                  (
+                                                                                                                    register Mulw 0x3b 0 0x01 refl,
+                                                                                                                    (
+                                                                                                                      register Divw 0x3b 4 0x01 refl,
+                                                                                                                      (
+                                                                                                                        register Divuw 0x3b 5 0x01 refl,
+                                                                                                                        (
+                                                                                                                          register Remw 0x3b 6 0x01 refl,
+                                                                                                                          (
+                                                                                                                            register Remuw 0x3b 7 0x01 refl,
+                                                                                                                            (
+                                                                                                                              fence,
+                                                                                                                              (
+                                                                                                                                ecall,
+                                                                                                                                (
+                                                                                                                                  ebreak,
+                                                                                                                                  (
+                                                                                                                                    reserve LrW 0x2f 2 0x02 refl,
+                                                                                                                                    (
+                                                                                                                                      atomic ScW 0x2f 2 0x03 refl,
+                                                                                                                                      (
+                                                                                                                                        atomic AmoswapW 0x2f 2 0x01 refl,
+                                                                                                                                        (
+                                                                                                                                          atomic AmoaddW 0x2f 2 0x00 refl,
+                                                                                                                                          (
+                                                                                                                                            atomic AmoxorW 0x2f 2 0x04 refl,
+                                                                                                                                            (
+                                                                                                                                              atomic AmoandW 0x2f 2 0x0c refl,
+                                                                                                                                              (
+                                                                                                                                                atomic AmoorW 0x2f 2 0x08 refl,
+                                                                                                                                                (
+                                                                                                                                                  atomic AmominW 0x2f 2 0x10 refl,
+                                                                                                                                                  (
+                                                                                                                                                    atomic AmomaxW 0x2f 2 0x14 refl,
+                                                                                                                                                    (
+                                                                                                                                                      atomic AmominuW 0x2f 2 0x18 refl,
+                                                                                                                                                      (
+                                                                                                                                                        atomic AmomaxuW 0x2f 2 0x1c refl,
+                                                                                                                                                        (
+                                                                                                                                                          reserve LrD 0x2f 3 0x02 refl,
+                                                                                                                                                          (
+                                                                                                                                                            atomic ScD 0x2f 3 0x03 refl,
+                                                                                                                                                            (
+                                                                                                                                                              atomic AmoswapD 0x2f 3 0x01 refl,
+                                                                                                                                                              (
+                                                                                                                                                                atomic AmoaddD 0x2f 3 0x00 refl,
+                                                                                                                                                                (
+                                                                                                                                                                  atomic AmoxorD 0x2f 3 0x04 refl,
+                                                                                                                                                                  (
+                                                                                                                                                                    atomic AmoandD 0x2f 3 0x0c refl,
+                                                                                                                                                                    (
+                                                                                                                                                                      atomic AmoorD 0x2f 3 0x08 refl,
+                                                                                                                                                                      (
+                                                                                                                                                                        atomic AmominD 0x2f 3 0x10 refl,
+                                                                                                                                                                        (
+                                                                                                                                                                          atomic AmomaxD 0x2f 3 0x14 refl,
+                                                                                                                                                                          (
+                                                                                                                                                                            atomic AmominuD 0x2f 3 0x18 refl,
+                                                                                                                                                                            (
+                                                                                                                                                                              atomic AmomaxuD 0x2f 3 0x1c refl,
+                                                                                                                                                                              tt,
+                                                                                                                                                                            ),
+                                                                                                                                                                          ),
+                                                                                                                                                                        ),
+                                                                                                                                                                      ),
+                                                                                                                                                                    ),
+                                                                                                                                                                  ),
+                                                                                                                                                                ),
+                                                                                                                                                              ),
+                                                                                                                                                            ),
+                                                                                                                                                          ),
+                                                                                                                                                        ),
+                                                                                                                                                      ),
+                                                                                                                                                    ),
+                                                                                                                                                  ),
+                                                                                                                                                ),
+                                                                                                                                              ),
+                                                                                                                                            ),
+                                                                                                                                          ),
+                                                                                                                                        ),
+                                                                                                                                      ),
+                                                                                                                                    ),
+                                                                                                                                  ),
+                                                                                                                                ),
+                                                                                                                              ),
+                                                                                                                            ),
+                                                                                                                          ),
+                                                                                                                        ),
+                                                                                                                      ),
+                                                                                                                    ),
+                                                                                                                  ),
+                                                                                                                ),
+                                                                                                              ),
+                                                                                                            ),
+                                                                                                          ),
+                                                                                                        ),
+                                                                                                      ),
+                                                                                                    ),
+                                                                                                  ),
+                                                                                                ),
+                                                                                              ),
+                                                                                            ),
+                                                                                          ),
+                                                                                        ),
+                                                                                      ),
+                                                                                    ),
+                                                                                  ),
+                                                                                ),
+                                                                              ),
+                                                                            ),
+                                                                          ),
+                                                                        ),
+                                                                      ),
+                                                                    ),
+                                                                  ),
+                                                                ),
+                                                              ),
+                                                            ),
+                                                          ),
+                                                        ),
+                                                      ),
+                                                    ),
+                                                  ),
+                                                ),
+                                              ),
+                                            ),
+                                          ),
+                                        ),
+                                      ),
+                                    ),
+                                  ),
+                                ),
+                              ),
+                            ),
+                          ),
+                        ),
+                      ),
+                    ),
+                  ),
+                ),
+              ),
+            ),
+          ),
+        ),
+      ),
+    ),
+  ),
+)

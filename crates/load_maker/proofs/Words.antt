@@ -6,7 +6,7 @@ use Rattle.guest_words.specs.Instructions.{Row, fits, read, table, row_of, instr
 use Rattle.guest_words.specs.declared.inst.Inst.{Inst}
 use Rattle.guest_words.proofs.OneRow.{one_row}
 use Rattle.load_maker.specs.Encoding.{IsWordOf, word_of_inst}
-use Rattle.load_maker.proofs.Rows.{Makes, IsMade, EachIsMade, made, table-made}
+use Rattle.load_maker.proofs.Rows.{IsMade, EachIsMade, made, table-made}
 
 -- ---- the row that a word fits
 
@@ -66,7 +66,7 @@ word-found w r e =
     let makes = here.1 w here.0 in
     let again = refound w (made r w) r table e makes.fit (one_row (made r w)) in
     let read_again : instruction_of (made r w) ≡ Some (of_row w r) =
-        ap (option_map (of_row (made r w))) again ∙ ap Some makes.same in
+    ap (option_map (of_row (made r w))) again ∙ ap Some makes.same in
     record {
       is = ap instruction_of (word-made r w) ∙ read_again;
       least = subst (λ (n : ℕ). n ≤ w) (sym (word-made r w)) makes.least;

@@ -1,6 +1,6 @@
 -- The load's program as an ELF file. System V gABI, 'ELF Header' and 'Program Header'; RISC-V
 -- psABI, 'ELF Object Files'.
-use Rattle.std.specs.Prelude.{ℕ, ◌+◌, ◌*◌, List, [], ◌∷◌, ◌++◌, length, replicate}
+use Rattle.std.specs.Prelude.{ℕ, List, [], ◌∷◌, ◌++◌, replicate}
 use Rattle.std.specs.Int.{w16, w32, w64, to_le_bytes}
 use Rattle.std.specs.List.{flat_map}
 use Rattle.guest_words.specs.declared.inst.Inst.{Inst}

@@ -8,6 +8,8 @@ mod form;
 mod input;
 mod made;
 mod program;
+#[cfg(test)]
+mod tests;
 
 pub use encoder::encode;
 pub use made::{Made, make};

@@ -8,8 +8,7 @@ use crate::input::load_input;
 use guest_words::{Bytes, MemoryWant};
 use std::alloc::Global;
 
-const POINTS: &str =
-    "version = 1\n[[point]]\nentry = 65752\nreturns = -1\nkind = \"blocking\"\n";
+const POINTS: &str = "version = 1\n[[point]]\nentry = 65752\nreturns = -1\nkind = \"blocking\"\n";
 
 /// A load: a program and its rescue file, which are always the same, and an input.
 #[derive(Drop)]

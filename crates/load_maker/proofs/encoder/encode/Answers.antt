@@ -1,5 +1,5 @@
 -- What is returned is the word of the instruction.
-use Rattle.std.proofs.Common.{◌≡◌, ◌+◌, sym, subst}
+use Rattle.std.proofs.Common.{◌≡◌, ◌+◌, subst}
 use Rattle.load_maker.specs.Encoding.{IsWordOf, word_of_inst}
 use Rattle.load_maker.proofs.Words.{IsWordOf-word}
 use Rattle.load_maker.proofs.encoder.encode.Goals as goal
