@@ -1,7 +1,12 @@
 pub mod Acting
 pub mod Blanking
+pub mod Deactivated
+pub mod DeviceCalls
+pub mod HartStates
 pub mod InARow
+pub mod Kept
 pub mod Made
+pub mod PastTheEnd
 pub mod Placed
 pub mod RegisterActs
 pub mod Texts

@@ -1,4 +1,4 @@
-ghost use Rattle.std.specs.Prelude.{◌≡◌, ◌≤◌, IfOk};
+ghost use Rattle.std.specs.Prelude.{◌≡◌, ◌+◌, ◌≤◌, false, replicate, IfOk};
 ghost use Rattle.guest_words.specs.declared.limits.TheConstants.{BUDGET, HARTS};
 ghost use Rattle.guest_words.specs.Image.{IsLoadList};
 ghost use Rattle.guest_words.specs.Start.{start_of};
@@ -6,6 +6,7 @@ ghost use Rattle.guest_words.specs.Start.{start_of};
 use crate::guest::Guest;
 use crate::record_log::RecordLog;
 use futex_table::Queue;
+use guest_memory::Memory;
 use guest_words::{Ending, Image, MemoryWant, Points};
 use hart_slots::Slots;
 use std::alloc::Global;
@@ -62,8 +63,8 @@ impl Model for Engine {
     ghost use Rattle.hart_step.specs.Inside.{IsEngine};
 
     ghost invariant = { λ e. IsEngine
-      e.guest.memory e.slots e.queue e.next_tid e.steps e.budget
-      e.records.records e.ports e.bytes e.closed.items };
+        e.guest.memory e.slots e.queue e.next_tid e.steps e.budget
+        e.records.records e.ports e.bytes e.closed.items };
 }
 
 impl Engine {
@@ -77,7 +78,6 @@ impl Engine {
         ports: u64,
         budget: u64,
     ) -> Result<Engine, MemoryWant>
-        requires not_yet { ⊥ }
         requires image { IsLoadList image.now.loads }
         requires some { 1 ≤ harts }
         requires most { harts ≤ HARTS }
@@ -86,14 +86,54 @@ impl Engine {
             engine.state ≡ start_of image.now points.now harts ports budget) }
         ensures spare { IfOk result (λ engine. engine.spare ≡ 0) }
     {
-        unreachable!()
+        let memory = Memory::of(alloc, image)?;
+        Ok(Engine {
+            guest: Guest::new(alloc, memory, points.copy(alloc)?)?,
+            slots: Slots::start(alloc, image.entry, harts)?,
+            queue: Queue::new(),
+            next_tid: 2,
+            steps: 0,
+            ending: None,
+            ports,
+            budget,
+            records: RecordLog::new(),
+            bytes: 0,
+            closed: all_open(alloc, ports)?,
+        })
     }
 
     /// An equal state, with no room for pages that can come back.
     pub fn copy(&self, alloc: Global) -> Result<Engine, MemoryWant>
-        requires not_yet { ⊥ }
         ensures ok { IfOk result (λ engine. engine.state ≡ self.now.state) }
     {
-        unreachable!()
+        Ok(Engine {
+            guest: self.guest.copy(alloc)?,
+            slots: self.slots.copy(alloc)?,
+            queue: self.queue.copy(),
+            next_tid: self.next_tid,
+            steps: self.steps,
+            ending: self.ending,
+            ports: self.ports,
+            budget: self.budget,
+            records: self.records.same(),
+            bytes: self.bytes,
+            closed: copied(alloc, &self.closed)?,
+        })
     }
+}
+
+// The three streams and so many ports, none of them closed.
+fn all_open(alloc: Global, ports: u64) -> Result<Vec<bool>, MemoryWant>
+    ensures open { IfOk result (λ closed. closed.items ≡ replicate (3 + ports) false) }
+{
+    let Some(count) = ports.checked_add(3) else {
+        return Err(MemoryWant);
+    };
+    Ok(vec![in alloc; false; count as usize]?)
+}
+
+fn copied(alloc: Global, closed: &Vec<bool>) -> Result<Vec<bool>, MemoryWant>
+    ensures ok { IfOk result (λ copy. copy.items ≡ closed.now.items) }
+{
+    Ok(closed.as_slice().to_vec(alloc)?)
 }

@@ -1,0 +1,10 @@
+use Rattle.std.proofs.Common.{sym, subst, List}
+use Rattle.guest_words.specs.declared.point.Point.{Point}
+use Rattle.hart_step.specs.Table.{IsTable}
+use Rattle.hart_step.proofs.Deactivated.{table-spent}
+use Rattle.hart_step.proofs.guest.Guest.spend.Goals as goal
+
+pub invariant_of-self : goal.invariant_of-self
+invariant_of-self c =
+    let guest = c.self.inside in
+    subst (λ (points : List Point). IsTable guest.memory.space points guest.table.items) (sym c.spend.ensures.value) (table-spent guest.memory.space guest.points c.args.entry guest.table.items c.self.invariant)
