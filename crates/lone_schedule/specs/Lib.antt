@@ -5,3 +5,4 @@ pub mod Insides
 pub mod Turns
 pub mod Lone
 pub mod Ahead
+pub mod Drives
