@@ -53,23 +53,23 @@ abbrev pub HasPlaces : Vec Outer → Type 0
 HasPlaces outers = FRAMES ≤ vec_capacity outers
 
 -- the same but for more room
-pub record PartRoomier (p q : Part) : Type 0 where
+pub record IsWider (p q : Part) : Type 0 where
   pub entries : q.entries.entries ≡ p.entries.entries
   pub notes : q.log.notes ≡ p.log.notes
   pub spare : p.entries.spare ≤ q.entries.spare
   pub log : p.log.spare ≤ q.log.spare
 
 pub record IsRoomier (o p : Outer) : Type 0 where
-  pub part : PartRoomier o.part p.part
+  pub part : IsWider o.part p.part
   pub point : p.point ≡ o.point
   pub kept : p.kept ≡ o.kept
 
-abbrev pub Roomier : List Outer → List Outer → Type 0
-Roomier [] [] = Unit {0}
-Roomier (o ∷ os) (p ∷ ps) = IsRoomier o p × Roomier os ps
-Roomier _ _ = ⊥
+abbrev pub AreRoomier : List Outer → List Outer → Type 0
+AreRoomier [] [] = Unit {0}
+AreRoomier (o ∷ os) (p ∷ ps) = IsRoomier o p × AreRoomier os ps
+AreRoomier _ _ = ⊥
 
--- an inner part is joined onto what encloses it
-pub record Joins (entries notes : ℕ) (a p : Part) : Type 0 where
+-- so much of the room is used
+pub record Uses (entries notes : ℕ) (a p : Part) : Type 0 where
   pub spare : a.entries.spare ≤ p.entries.spare + entries
   pub log : a.log.spare ≤ p.log.spare + notes

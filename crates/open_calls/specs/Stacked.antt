@@ -1,10 +1,10 @@
 -- Open calls over a state: what is known of them.
 use Rattle.std.specs.Prelude.{◌≡◌, ℕ, true, List, [], ◌∷◌, length, map}
-use Rattle.guest_words.specs.State.{State, enter, frames_at}
+use Rattle.guest_words.specs.State.{State, changed, enter, frames_at}
 use Rattle.checkpoints.specs.declared.checkpoint.Checkpoint.{Checkpoint}
 use Rattle.guest_memory.specs.Kept.{AddressSpace}
 use Rattle.guest_memory.specs.Returning.{put_back}
-use Rattle.hart_slots.specs.Rejoined.{hart_of}
+use Rattle.hart_slots.specs.Rejoined.{hart_of, rejoined, reopened}
 use Rattle.undo_log.specs.declared.note.Note.{Note}
 use Rattle.undo_log.specs.Undo.{undone}
 use Rattle.run_history.specs.declared.entry.Entry.{Entry, Entered}
@@ -49,3 +49,15 @@ Stacked Back start h [] es ns t n = IsRun start es × (state_after start es ≡ 
 Stacked Back start h (o ∷ os) es ns t n =
     (b : State) × (m : AddressSpace) × IsOpen Back h b m o (length os) es ns t n
     × Stacked Back start h os o.entries o.notes b m
+
+-- a state with memory as it was and with what was kept, the innermost frame of the hart closed: but
+-- for what a rescue leaves as it is
+abbrev pub brought_back : State → ℕ → Checkpoint → AddressSpace → State
+brought_back t h kept m =
+    record t {
+      memory = m.space;
+      brk = m.brk;
+      slots = changed reopened h (rejoined kept.harts t.slots);
+      waiting = kept.queue;
+      next_tid = kept.next_tid;
+    }

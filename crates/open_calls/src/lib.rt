@@ -4,6 +4,7 @@
 mod calls;
 mod outer;
 mod part;
+mod room;
 mod taken;
 
 pub use calls::Calls;
