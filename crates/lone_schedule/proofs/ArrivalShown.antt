@@ -1,19 +1,16 @@
 -- An arrival in a state in which a turn begins is answered by Entered or Rescued.
-use Rattle.std.proofs.Common.{◌≡◌, ℕ, zero, suc, Bool, true, false, not, ◌&&◌, ◌==◌, nat_lt, refl, ap, sym, ◌∙◌, subst, arith}
-use Rattle.std.proofs.lemmas.Bool.{both_ways}
+use Rattle.std.proofs.Common.{◌≡◌, ℕ, true, ◌==◌, sym, subst, arith}
 use Rattle.std.proofs.lemmas.Bool.Decides.{nat_tests}
-use Rattle.guest_words.specs.declared.ending.Ending.{Ending}
 use Rattle.guest_words.specs.declared.ending.Ending.TheVariants as ending
 use Rattle.guest_words.specs.declared.point.PointRef.{PointRef}
 use Rattle.guest_words.specs.Act.{StateAct, Ordinary, Fault, Request, Arrival, End, Absent, act_of, fits}
 use Rattle.guest_words.specs.Endings.{is_end, is_fault}
-use Rattle.guest_words.specs.State.{State, frames_at}
+use Rattle.guest_words.specs.State.{State}
 use Rattle.run_history.specs.declared.entry.Entry.{Entry, Ran, Entered, Called, Rescued', Ended}
 use Rattle.run_history.specs.Legal.{is_arrival, is_ordinary, legal, may_act}
 use Rattle.run_history.proofs.Ands.{and_left, and_right}
 use Rattle.run_history.proofs.Entries.{legal-Called-fits, legal-Ran-goes}
-use Rattle.lone_schedule.specs.Insides.{is_apart}
-use Rattle.lone_schedule.specs.Turns.{begins, ends_hart, is_greatest}
+use Rattle.lone_schedule.specs.Turns.{begins}
 
 abbrev pub Answers : Entry → Type 0
 Answers (Entered h p) = Unit {0}

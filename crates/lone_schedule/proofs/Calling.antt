@@ -1,5 +1,5 @@
 -- A step of open calls keeps to the rules of a turn, or takes back the call with which it began.
-use Rattle.std.proofs.Common.{◌≡◌, ◌⊎◌, inl, inr, ℕ, ◌+◌, ◌^◌, ◌<◌, ◌≤◌, Bool, true, false, not, ◌||◌, ◌&&◌, ◌==◌, List, [], ◌∷◌, ◌++◌, Option, Some, None, refl, ap, sym, ◌∙◌, subst, arith, eq-eqb}
+use Rattle.std.proofs.Common.{◌≡◌, ◌⊎◌, inl, inr, ℕ, ◌+◌, ◌<◌, ◌≤◌, Bool, true, false, ◌||◌, List, [], ◌∷◌, ◌++◌, Option, Some, None, refl, ap, sym, ◌∙◌, subst, arith, eq-eqb}
 use Rattle.std.proofs.lemmas.Bool.{and_from, not-true}
 use Rattle.std.proofs.lemmas.List.{append_assoc, append_cancel_left, append-nil}
 use Rattle.guest_words.specs.declared.ending.Ending.{Ending}
@@ -9,15 +9,15 @@ use Rattle.guest_words.specs.declared.point.PointRef.{PointRef}
 use Rattle.guest_words.specs.declared.record.Record.{Record}
 use Rattle.guest_words.specs.Act.{StateAct, Ordinary, Fault, Request, Arrival, End, Absent, act_of}
 use Rattle.guest_words.specs.Endings.{is_budget_spent}
-use Rattle.guest_words.specs.State.{State, enter, frames_at}
+use Rattle.guest_words.specs.State.{State, enter}
 use Rattle.run_history.specs.declared.entry.Entry.{Entry, Entered, Called, Ended}
 use Rattle.run_history.specs.declared.entry.Entry.TheViews as v
 use Rattle.run_history.specs.After.{after, ran, state_after}
 use Rattle.run_history.specs.Counts.{steps_of, steps_of_all}
 use Rattle.run_history.specs.LastEntry.{with_acts, with_ran}
-use Rattle.run_history.specs.Legal.{can_go, is_ready_at, legal, may_act}
+use Rattle.run_history.specs.Legal.{legal}
 use Rattle.run_history.specs.Run.{is_run}
-use Rattle.run_history.proofs.Ands.{and_left, and_right}
+use Rattle.run_history.proofs.Ands.{and_left}
 use Rattle.run_history.proofs.Appends.{is_run-append, is_run-push, state_after-append, state_after-push}
 use Rattle.run_history.proofs.Entries.{after-Ended, after-Entered, goes-first}
 use Rattle.run_history.proofs.Insides.{steps_of-Rescued}
@@ -26,8 +26,7 @@ use Rattle.run_history.proofs.LastEntries.{with_acts-some}
 use Rattle.run_history.proofs.OneMore.{runs-acts}
 use Rattle.run_history.proofs.StepsAfter.{ran_steps, ran_within, steps_after_run, within_run}
 use Rattle.run_history.proofs.Under.{may_under}
-use Rattle.open_calls.specs.Nest.{lowest}
-use Rattle.machine_core.specs.Machine.{GoesOn, Machine, Opened, history_of, whole}
+use Rattle.machine_core.specs.Machine.{Machine, Opened, history_of, whole}
 use Rattle.machine_core.specs.OpenSteps.{Acts, Asks, DoesBy, Does, Enters, Erases, StepsTo}
 use Rattle.machine_core.specs.QuietSteps.{EndsBy}
 use Rattle.lone_schedule.specs.Drives.{InTurn, IsCalling}

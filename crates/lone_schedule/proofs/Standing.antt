@@ -1,15 +1,16 @@
 -- Turns one behind the other.
-use Rattle.std.proofs.Common.{◌≡◌, ◌⊎◌, inl, inr, ℕ, ◌+◌, ◌<◌, Bool, true, false, not, ◌||◌, if◌then◌else◌, List, [], ◌∷◌, ◌++◌, length, Option, Some, None, is_none, refl, ap, sym, ◌∙◌, subst, arith}
-use Rattle.std.proofs.lemmas.Bool.{both_ways}
+use Rattle.std.proofs.Common.{◌≡◌, ◌⊎◌, inl, inr, ℕ, ◌+◌, ◌<◌, Bool, true, false, not, ◌&&◌, ◌||◌, if◌then◌else◌, [], ◌∷◌, ◌++◌, length, Option, Some, None, is_none, refl, ap, sym, ◌∙◌, subst, arith}
+use Rattle.std.proofs.lemmas.Bool.{both_ways, not-true}
 use Rattle.std.proofs.lemmas.List.{append_assoc, append-nil, length-append}
 use Rattle.rand_pcg.specs.Lcg.{Lcg}
 use Rattle.guest_words.specs.declared.ending.Ending.{Ending}
 use Rattle.guest_words.specs.State.{State}
 use Rattle.run_history.specs.After.{state_after}
 use Rattle.run_history.specs.Quiet.{is_quiet}
+use Rattle.run_history.proofs.Ands.{and_left, and_right}
 use Rattle.run_history.proofs.Appends.{state_after-append}
 use Rattle.run_history.proofs.SlotCount.{state_after_count}
-use Rattle.machine_core.specs.Machine.{Machine}
+use Rattle.machine_core.specs.Machine.{IsAsTold, Machine}
 use Rattle.lone_schedule.specs.Ahead.{turns_ahead}
 use Rattle.lone_schedule.specs.Drives.{turns_left, CanTurn, GivesUp, RunsAlone, Stands, TakesTurn}
 use Rattle.lone_schedule.specs.Lone.{are_turns, joined}
@@ -92,3 +93,24 @@ runs_alone seed from m words st = record {
   follows = st.follows;
   lone = record { turns = st.turns; parts = refl; are = st.are };
 }
+
+-- a machine that goes on can make a turn
+pub can_by : (start : State) (m : Machine) → (is_none m.state.ending && not m.abandoned) ≡ true → 0 < length m.state.slots → IsAsTold start m → CanTurn start m
+can_by start m is slots told = record {
+  going = none-is m.state.ending (and_left _ _ is);
+  kept = not-true m.abandoned (and_right (is_none m.state.ending) _ is);
+  slots = slots;
+  told = told;
+}
+  where
+    none-is : (o : Option Ending) → is_none o ≡ true → o ≡ None
+    none-is None is = refl
+    none-is (Some x) is = cc
+
+-- and one that doesn't has ended, or isn't to go on
+pub over_by : (m : Machine) → (is_none m.state.ending && not m.abandoned) ≡ false → m.state.ending ≡ None → m.abandoned ≡ true
+over_by m is none = by m.abandoned (sym (ap (λ o. is_none o && not m.abandoned) none) ∙ is)
+  where
+    by : (b : Bool) → (true && not b) ≡ false → b ≡ true
+    by true is = refl
+    by false is = cc

@@ -1,11 +1,11 @@
 -- Open calls that have been entered since a machine was ready, or have come to their end, are a turn.
-use Rattle.std.proofs.Common.{◌≡◌, ◌⊎◌, inl, inr, ℕ, ◌+◌, ◌<◌, ◌≤◌, true, false, ◌&&◌, ◌==◌, List, [], ◌∷◌, ◌++◌, length, Some, None, refl, ap, sym, ◌∙◌, subst, arith, eq-eqb}
+use Rattle.std.proofs.Common.{◌≡◌, inl, inr, ℕ, ◌+◌, ◌<◌, ◌≤◌, true, false, List, [], length, Some, None, refl, ap, sym, ◌∙◌, subst, arith, eq-eqb}
 use Rattle.std.proofs.lemmas.Bool.{and_from, both_ways}
 use Rattle.guest_words.specs.declared.point.PointRef.{PointRef}
 use Rattle.guest_words.specs.State.{State, enter, frames_at}
 use Rattle.run_history.specs.declared.entry.Entry.{Entry, Entered}
 use Rattle.run_history.specs.declared.entry.Entry.TheViews as v
-use Rattle.run_history.specs.After.{after, rescued_from, state_after}
+use Rattle.run_history.specs.After.{state_after}
 use Rattle.run_history.specs.Counts.{steps_of_all}
 use Rattle.run_history.specs.Legal.{legal}
 use Rattle.run_history.specs.Quiet.{is_quiet}
@@ -18,14 +18,13 @@ use Rattle.run_history.proofs.Quietness.{quiet_frames}
 use Rattle.run_history.proofs.SlotCount.{entered_count, state_after_count}
 use Rattle.run_history.proofs.StepsAfter.{may_step, more_steps_run, steps_after_run}
 use Rattle.open_calls.specs.Nest.{lowest}
-use Rattle.machine_core.specs.Machine.{GoesOn, Machine, Opened, whole}
+use Rattle.machine_core.specs.Machine.{Machine, Opened, whole}
 use Rattle.machine_core.specs.OpenSteps.{abandoned_of, HasBegun, LeavesAll, StaysUnder}
 use Rattle.lone_schedule.specs.Ahead.{turns_ahead}
 use Rattle.lone_schedule.specs.Drives.{CanTurn, InTurn, IsCalling, MakesTurn}
 use Rattle.lone_schedule.specs.Turns.{goes_on, is_turn_of}
 use Rattle.lone_schedule.proofs.Calling.{entered_apart, IsRescue, stepped}
 use Rattle.lone_schedule.proofs.Entering.{entered_budget, entered_jumped, entered_steps}
-use Rattle.lone_schedule.proofs.InsideLaws.{ran-Rescued}
 use Rattle.lone_schedule.proofs.Measures.{rescue_nearer, step_nearer}
 use Rattle.lone_schedule.proofs.Rescues.{rescue_begins}
 use Rattle.lone_schedule.proofs.RestLaws.{rest_apart}

@@ -1,4 +1,4 @@
-use Rattle.std.proofs.Common.{◌≡◌, ◌<◌, ◌∙◌, ap, sym, subst}
+use Rattle.std.proofs.Common.{◌<◌, ◌∙◌, ap, sym, subst}
 use Rattle.run_history.specs.Ahead.{ahead}
 use Rattle.machine_core.specs.Machine.{whole, Opened}
 use Rattle.machine_core.specs.OpenSteps.{abandoned_of}

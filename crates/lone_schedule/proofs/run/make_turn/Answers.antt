@@ -1,7 +1,6 @@
-use Rattle.std.proofs.Common.{◌≡◌, ◌<◌, inl, inr, length, Ok, Some, ap, sym, subst}
+use Rattle.std.proofs.Common.{◌≡◌, inl, inr, Some, subst}
 use Rattle.std.proofs.lemmas.Bool.{both_ways}
 use Rattle.guest_words.specs.Act.{act_of}
-use Rattle.machine_core.specs.declared.stepped.Stepped.TheVariants.{Moved, Arrived, Idle, Ended as Over}
 use Rattle.machine_core.specs.QuietSteps.{stepped_of, Steps}
 use Rattle.run_history.specs.Legal.{is_ready_at}
 use Rattle.lone_schedule.proofs.Answering.{arrived_is, idle_is, moved_is, over_is, unstuck}
