@@ -62,8 +62,8 @@ impl Model for Engine {
     ghost use Rattle.hart_step.specs.Inside.{IsEngine};
 
     ghost invariant = { λ e. IsEngine
-      e.guest.memory e.slots e.queue e.next_tid e.steps e.budget
-      e.records.records e.ports e.bytes e.closed.items };
+        e.guest.memory e.slots e.queue e.next_tid e.steps e.budget
+        e.records.records e.ports e.bytes e.closed.items };
 }
 
 impl Engine {

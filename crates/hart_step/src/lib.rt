@@ -19,6 +19,7 @@ mod readers;
 mod record_log;
 mod register_rows;
 mod registers;
+mod running;
 mod serving;
 mod step;
 mod stretches;

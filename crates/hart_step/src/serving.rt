@@ -61,14 +61,7 @@ impl Engine {
     /// Puts back what was kept where a hart entered its innermost frame, and memory by the notes
     /// since then; the hart returns from the point for a fault, and the point has one rescue less.
     /// Takes no memory and is never refused.
-    pub fn take_back(
-        &mut self,
-        hart: u8,
-        kept: Checkpoint,
-        log: Log,
-        point: PointRef,
-        fault: Fault,
-    )
+    pub fn take_back(&mut self, hart: u8, kept: Checkpoint, log: Log, point: PointRef, fault: Fault)
         requires not_yet { ⊥ }
         requires count { length kept.harts ≡ length self.old.state.slots }
         requires returns { CanReturn kept (space_before self.old log.notes) self.old.state.steps }
