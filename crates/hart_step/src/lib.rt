@@ -8,7 +8,9 @@ mod deciding;
 mod did;
 mod engine;
 mod guest;
+mod hurry;
 mod known;
+mod leg;
 mod look;
 mod memory_rows;
 mod next_act;
@@ -23,7 +25,10 @@ mod running;
 mod serving;
 mod step;
 mod stretches;
+#[cfg(test)]
+mod tests;
 mod text;
+mod wants;
 
 pub use deciding::decide;
 pub use engine::Engine;

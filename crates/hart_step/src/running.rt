@@ -15,7 +15,6 @@ impl Engine {
     /// before a frame closes; the one that closes a frame is the last. What stopped them is
     /// answered. Where `noted`, the log gets a note of all that is overwritten. Takes no memory.
     pub fn run(&mut self, hart: u8, most: u32, log: &mut Log, noted: bool) -> Run
-        requires not_yet { ⊥ }
         requires room { noted ≡ true → most ≤ log.old.spare }
         ensures within { result.count ≤ most }
         ensures legal { can_run self.old.state hart result.count ≡ true }
@@ -27,6 +26,20 @@ impl Engine {
             (space_of self.old) (space_of self.new) }
         ensures room { log.old.spare ≤ log.new.spare + result.count }
     {
-        unreachable!()
+        let mut count = 0;
+        for _ in 0..most {
+            if count == most {
+                return Run { count, next: None };
+            }
+            let leg = self.leg(hart, most - count, log, noted);
+            count += leg.count;
+            if leg.is_last {
+                return Run {
+                    count,
+                    next: leg.next,
+                };
+            }
+        }
+        Run { count, next: None }
     }
 }
