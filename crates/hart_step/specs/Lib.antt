@@ -10,3 +10,4 @@ pub mod Stops
 pub mod Noted
 pub mod Returns
 pub mod Inside
+pub mod Acts

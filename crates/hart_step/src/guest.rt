@@ -16,10 +16,10 @@ use undo_log::Log;
 /// What a hart acts on: the memory and the points. It keeps the instructions that were decoded.
 #[derive(Drop)]
 pub struct Guest {
-    memory: Memory,
-    points: Points,
-    recent: Recent,
-    table: Vec<Known>,
+    pub(crate) memory: Memory,
+    pub(crate) points: Points,
+    pub(crate) recent: Recent,
+    pub(crate) table: Vec<Known>,
 }
 
 impl Model for Guest {

@@ -7,6 +7,7 @@ mod carry;
 mod deciding;
 mod did;
 mod engine;
+mod facts;
 mod guest;
 mod known;
 mod look;
