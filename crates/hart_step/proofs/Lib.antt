@@ -6,3 +6,4 @@ pub mod Placed
 pub mod RegisterActs
 pub mod Texts
 mod Walks
+pub mod Waiting

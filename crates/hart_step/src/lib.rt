@@ -4,11 +4,13 @@
 mod acts;
 mod before;
 mod carry;
+mod changes;
 mod deciding;
 mod did;
 mod engine;
 mod facts;
 mod guest;
+mod guest_changes;
 mod known;
 mod look;
 mod memory_rows;
