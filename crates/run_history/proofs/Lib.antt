@@ -8,13 +8,16 @@ pub mod Slots
 pub mod FewerFrames
 pub mod SlotCount
 pub mod Kept
+pub mod Staying
 pub mod Quietness
 pub mod Entries
+pub mod Nested
 pub mod EnteredFrames
 pub mod Appends
 pub mod RunSteps
 pub mod Longer
 pub mod StepsAfter
+pub mod Tids
 pub mod OneEnding
 pub mod Requests
 pub mod ByteLengths
@@ -23,6 +26,7 @@ pub mod Ahead
 pub mod Faulting
 pub mod Lone
 pub mod Readiness
+pub mod Under
 pub mod Fetches
 mod RunsShown
 mod RescueShown

@@ -1,6 +1,6 @@
 -- A ready hart that has a frame open after its act is ready still: one that exits has none, and one
 -- that has a frame open doesn't wait.
-use Rattle.std.proofs.Common.{◌≡◌, ◌≢◌, inl, inr, ℕ, zero, suc, ◌+◌, ◌-◌, ◌*◌, ◌<◌, ◌≤◌, ℤ, pos, true, false, ◌&&◌, nat_lt, if◌then◌else◌, List, [], ◌∷◌, length, set, Option, Some, None, option_map, refl, ap, sym, ◌∙◌, slice_get, subst, arith}
+use Rattle.std.proofs.Common.{◌≡◌, inl, inr, ℕ, zero, suc, ◌-◌, ◌*◌, ◌<◌, ◌≤◌, ℤ, pos, true, ◌&&◌, List, [], ◌∷◌, length, set, Option, Some, None, option_map, refl, ap, ◌∙◌, slice_get, subst, arith}
 use Rattle.std.proofs.lemmas.Bool.Decides.{nat_tests}
 use Rattle.std.proofs.lemmas.Option.{slice_get-map}
 use Rattle.guest_words.specs.declared.act.Act.{Act}
@@ -161,7 +161,7 @@ ready_call s h call ready = record {
   queue = λ place value timeout is none some.
       let t : State = queued s h place in
       let few : frames_at (with_closed t h) h ≤ frames_at s h =
-          fewer_both s.slots t.slots (with_closed t h).slots (changed_fewer (on_hart (asleep place)) h s.slots (λ slot. omega arith)) (changed_fewer closed h t.slots (λ slot. length-close_frames slot.hart slot.frames)) h in
+      fewer_both s.slots t.slots (with_closed t h).slots (changed_fewer (on_hart (asleep place)) h s.slots (λ slot. omega arith)) (changed_fewer closed h t.slots (λ slot. length-close_frames slot.hart slot.frames)) h in
       absurd (grind (arith, nat_tests, none, few, some));
   blocked = tt;
   rouse = λ place value is some. closed_ready (wakes s h place (low_32 value)) h (wakes_ready s h place (low_32 value) ready);

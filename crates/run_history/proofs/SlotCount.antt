@@ -1,14 +1,17 @@
 -- No entry changes the number of slots.
 use Rattle.std.proofs.Common.{◌≡◌, ℕ, List, [], ◌∷◌, length, Option, Some, None, refl, ◌∙◌}
 use Rattle.std.proofs.lemmas.List.{length-map, length-set}
+use Rattle.guest_words.specs.declared.fault.Fault.{Fault as FaultAt}
 use Rattle.guest_words.specs.declared.hart.Slot.{Slot}
+use Rattle.guest_words.specs.declared.point.PointRef.{PointRef}
+use Rattle.guest_words.specs.declared.record.Record.{Record}
 use Rattle.guest_words.specs.CallChanges.{departed, ready, with_child}
 use Rattle.guest_words.specs.Harts.{opened}
-use Rattle.guest_words.specs.State.{State, closed, on_hart}
+use Rattle.guest_words.specs.State.{State, closed, enter, on_hart}
 use Rattle.run_history.specs.declared.entry.Entry.{Entry, Ran, Entered, Called, Rescued', Ended}
-use Rattle.run_history.specs.After.{after, after_row, state_after}
+use Rattle.run_history.specs.After.{after, after_row, called, next, ran, rescued_from, state_after}
 use Rattle.run_history.proofs.Slots.{length-changed}
-use Rattle.run_history.proofs.Walk.{OtherChanges, OwnChanges, called_walked, entered_walked, ran_walked, rescued_walked, walked_act}
+use Rattle.run_history.proofs.Walk.{OtherChanges, OwnChanges, called_walked, entered_walked, next_walked, ran_walked, rescued_walked, walked_act}
 
 -- the second state has as many slots as the first
 abbrev pub SameCount : State → State → Type 0
@@ -35,12 +38,27 @@ other = record {
   bears = λ s slot child parent none. child_same slot child parent s.slots;
 }
 
+pub next_count : (s : State) (h : ℕ) → SameCount s (next s h)
+next_count s h = next_walked h SameCount (own h) s (walked_act h SameCount (own h) other s)
+
+pub ran_count : (s : State) (h n : ℕ) → SameCount s (ran s h n)
+ran_count s h n = ran_walked h SameCount (own h) n s (λ t. walked_act h SameCount (own h) other t)
+
+pub entered_count : (s : State) (h : ℕ) (p : PointRef) → SameCount s (enter s h p)
+entered_count s h p = entered_walked h SameCount (own h) s p (length-changed (opened p) h s.slots)
+
+pub called_count : (s : State) (h : ℕ) (call : Record) → SameCount s (called s h call)
+called_count s h call = called_walked h SameCount (own h) (λ t rs. refl) s call
+
+pub rescued_count : (s : State) (h : ℕ) (p : PointRef) (f : FaultAt) (t : State) → SameCount s (rescued_from s h p f t)
+rescued_count s h p f t = rescued_walked h SameCount (own h) (λ u rs. refl) (λ u ps. refl) s t p f
+
 pub after_count : (s : State) (e : Entry) → SameCount s (after s e)
 unfolding after
-after_count s (Ran h n) = ran_walked h SameCount (own h) n s (λ t. walked_act h SameCount (own h) other t)
-after_count s (Entered h p) = entered_walked h SameCount (own h) s p (length-changed (opened p) h s.slots)
-after_count s (Called h r) = called_walked h SameCount (own h) (λ t rs. refl) s r
-after_count s (Rescued' h p f shape inside) = rescued_walked h SameCount (own h) (λ t rs. refl) (λ t ps. refl) s (after_row _ inside) p f
+after_count s (Ran h n) = ran_count s h n
+after_count s (Entered h p) = entered_count s h p
+after_count s (Called h call) = called_count s h call
+after_count s (Rescued' h p f shape inside) = rescued_count s h p f (after_row _ inside)
 after_count s (Ended x) = refl
 
 pub state_after_count : (s : State) (es : List Entry) → SameCount s (state_after s es)

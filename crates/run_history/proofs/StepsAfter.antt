@@ -78,6 +78,13 @@ steps_after_run s (e ∷ es) is =
 pub steps_after_inside : (s : State) (h d : ℕ) (es : List Entry) → legal_inside s h d es ≡ true → (state_after s es).steps ≡ s.steps + steps_of_all es
 steps_after_inside s h d es is = steps_after_run s es (legal_inside-runs s h d es is)
 
+-- so no run takes a step back
+pub more_steps_run : (s : State) (es : List Entry) → is_run s es ≡ true → s.steps ≤ (state_after s es).steps
+more_steps_run s es is = let steps = steps_after_run s es is in omega (arith, steps)
+
+pub more_steps_inside : (s : State) (h d : ℕ) (es : List Entry) → legal_inside s h d es ≡ true → s.steps ≤ (state_after s es).steps
+more_steps_inside s h d es is = more_steps_run s es (legal_inside-runs s h d es is)
+
 -- a state whose budget isn't spent has a step left
 pub step_left : (s : State) → not (is_budget_spent s) ≡ true → s.steps ≤ s.budget → s.steps < s.budget
 step_left s is within = by (s.steps == s.budget) refl is
@@ -138,3 +145,6 @@ pub within_run : (s : State) (es : List Entry) → is_run s es ≡ true → s.st
 within_run s [] is within = within
 within_run s (e ∷ es) is within =
     within_run (after s e) es (and_right (legal s e) _ is) (within_after s e (and_left _ _ is) within)
+
+pub within_inside : (s : State) (h d : ℕ) (es : List Entry) → legal_inside s h d es ≡ true → s.steps ≤ s.budget → (state_after s es).steps ≤ (state_after s es).budget
+within_inside s h d es is within = within_run s es (legal_inside-runs s h d es is) within

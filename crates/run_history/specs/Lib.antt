@@ -8,3 +8,4 @@ pub mod Legal
 pub mod Quiet
 pub mod Requests
 pub mod Run
+pub mod Under
