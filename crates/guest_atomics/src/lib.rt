@@ -3,6 +3,7 @@
 
 mod harts;
 mod operation;
+mod readings;
 mod reservation;
 #[cfg(test)]
 mod tests;

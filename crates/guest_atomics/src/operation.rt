@@ -2,8 +2,8 @@ ghost use Rattle.std.specs.Prelude.{◌≡◌, ◌⊎◌};
 ghost use Rattle.guest_words.specs.Effects.{class_of, amo_of};
 ghost use Rattle.guest_words.specs.Word;
 
+use crate::readings::{low_32, signed, signed_32, word_of};
 use guest_words::{Class, Op, Width};
-use rv_word::{low_32, signed, signed_32, sum, word_of};
 
 /// What an atomic instruction stores, where memory has `old` and rs2 is `operand`. Of a row on
 /// words of 32 bits it is below 2^32, whatever the high bits are.
@@ -23,7 +23,7 @@ pub fn amo(op: Op, old: u64, operand: u64) -> u64
         Op::AmominuW => u64::from(low_32(old).min(low_32(operand))),
         Op::AmomaxuW => u64::from(low_32(old).max(low_32(operand))),
         Op::AmoswapD => operand,
-        Op::AmoaddD => sum(old, operand),
+        Op::AmoaddD => old.wrapping_add(operand),
         Op::AmoxorD => old ^ operand,
         Op::AmoandD => old & operand,
         Op::AmoorD => old | operand,

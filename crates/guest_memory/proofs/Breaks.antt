@@ -1,14 +1,13 @@
 -- Where the heap begins.
-use Rattle.std.proofs.Common.{◌≡◌, ℕ, zero, suc, ◌+◌, ◌-◌, ◌/◌, ◌%◌, ◌*◌, ◌<◌, ◌≤◌, ◌||◌, ◌==◌, max, Bool, true, false, cond, List, [], ◌∷◌, Option, Some, None, refl, sym, ap, ◌∙◌, arith, lit≤, if◌then◌else◌, inl, inr}
+use Rattle.std.proofs.Common.{◌≡◌, ℕ, zero, suc, ◌+◌, ◌-◌, ◌/◌, ◌%◌, ◌<◌, ◌≤◌, ◌||◌, Bool, true, false, cond, List, [], ◌∷◌, Some, None, refl, sym, ap, ◌∙◌, arith, lit≤, if◌then◌else◌, inl, inr}
 use Rattle.std.proofs.lemmas.Bool.Decides.{nat_tests, leb_tells, eqb_tells}
-use Rattle.std.specs.List.{All, find, list_any, range_with_len}
-use Rattle.std.specs.FinMap.{get}
+use Rattle.std.specs.List.{All, find, range_with_len}
 use Rattle.guest_words.specs.declared.image.Load.{Load}
-use Rattle.guest_words.specs.declared.image.Cell.{Cell}
-use Rattle.guest_words.specs.Image.{IsLoad, contains, pages_of}
-use Rattle.guest_words.specs.Space.{Space, has_right, page_up}
+use Rattle.guest_words.specs.Image.{IsLoad, contains}
+use Rattle.guest_words.specs.Space.{has_right}
 use Rattle.guest_words.specs.Start.{is_in_pages, is_in_stack, loaded_cell, low_break, memory_of, stack_cell}
 use Rattle.guest_words.proofs.StartMemory.{get-memory_of, get-memory_of_past}
+use Rattle.guest_pages.specs.Stretch.{IsFree}
 use Rattle.guest_memory.specs.Kept.{IsHeap}
 use Rattle.guest_memory.specs.Text.{IsTextBelow}
 
@@ -68,3 +67,24 @@ text_below loads each a exec =
       | inr below ↦ cell_below loads a (is_in_stack a) each (ap (has_right (λ rights. rights.exec)) (sym (get-memory_of loads a below.1)) ∙ exec)
       | inl past ↦ let never = sym (ap (has_right (λ rights. rights.exec)) (get-memory_of_past loads a past.1)) ∙ exec in cc
     ]
+
+-- no load has a page from the low break on
+loaded_none : (loads : List Load) (a : ℕ) → All IsLoad loads → low_break loads ≤ a → find (is_in_pages a) loads ≡ None
+loaded_none [] a each past = refl
+loaded_none (load ∷ loads) a each past =
+    elim (is_in_pages a load) as (λ b. is_in_pages a load ≡ b → cond b (Some load) (find (is_in_pages a) loads) ≡ None) [
+      | true ↦ λ inside.
+          let some = (each 0 load (omega arith)).filled in
+          let page = in_range ((load.address + load.size - 1) / 4096 + 1 - load.address / 4096) (load.address / 4096) (a / 4096) inside in
+          absurd (omega (arith, page, some, past))
+      | false ↦ λ _. loaded_none loads a (λ k d below. each (suc k) d (omega arith)) (omega (arith, past))
+    ] refl
+
+-- no page of the heap is there at the start
+pub heap_gap : (loads : List Load) → All IsLoad loads → IsFree (memory_of loads) (low_break loads) 0x4000000
+heap_gap loads each a low high =
+    let end = low_within loads each in
+    let out : is_in_stack a ≡ false = grind (arith, nat_tests, end, high) in
+    get-memory_of loads a (omega (arith, end, high))
+    ∙ ap (λ b. if b then Some stack_cell else loaded_cell loads a (find (is_in_pages a) loads)) out
+    ∙ ap (loaded_cell loads a) (loaded_none loads a each low)

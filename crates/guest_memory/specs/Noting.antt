@@ -1,7 +1,7 @@
--- Notes of what a change of memory overwrites.
-use Rattle.std.specs.Prelude.{◌≡◌, ℕ, ◌+◌, Bool, true, false, List, [], ◌++◌}
+-- Changes that may be noted in a log.
+use Rattle.std.specs.Prelude.{◌≡◌, ◌+◌, Bool, true, false, List, [], ◌++◌}
 use Rattle.undo_log.specs.declared.note.Note.{Note}
-use Rattle.undo_log.specs.Undo.{undone, gone_in}
+use Rattle.undo_log.specs.Undo.{gone_in, undone}
 use Rattle.guest_memory.specs.Kept.{AddressSpace}
 use Rattle.guest_memory.specs.Returning.{put_back}
 

@@ -1,8 +1,10 @@
 ghost use Rattle.std.specs.Prelude.{◌≡◌, ◌+◌, ◌≤◌};
 ghost use Rattle.guest_memory.specs.Kept.{IsHeap};
+ghost use Rattle.guest_memory.specs.Returning.{put_back};
 
 use crate::memory::Memory;
 use guest_words::limits::HEAP_BYTES;
+use undo_log::Note;
 
 impl Memory {
     /// The low break: the first address of the heap.
@@ -26,6 +28,7 @@ impl Memory {
         requires low { self.old.low ≤ to }
         requires high { to ≤ self.old.low + HEAP_BYTES }
         ensures value { self.new ≡ record self.old { brk = to } }
+        ensures back { put_back self.new (Note.Break self.old.brk) ≡ self.old }
     {
         self.brk = to;
     }

@@ -5,12 +5,14 @@ ghost use Rattle.guest_words.specs.CallChanges.{free_place, mapped_pages};
 ghost use Rattle.guest_words.specs.Space.{with_zeros, without};
 ghost use Rattle.guest_pages.specs.Paged.{page_at, with_page};
 ghost use Rattle.guest_pages.specs.Stretch.{HasNoPageFrom, IsFree, IsNextPage, IsPageOf, IsPlace};
+ghost use Rattle.guest_memory.specs.Returning.{put_back};
 ghost use Rattle.guest_memory.specs.Text.{HasNoText, SameText};
 
 use crate::memory::Memory;
 use guest_words::limits::PAGE;
 use guest_words::{MemoryWant, Page, Rights};
 use std::alloc::Global;
+use undo_log::Note;
 
 impl Memory {
     /// Makes so many pages of zeros from an address on, none of which is there.
@@ -30,6 +32,7 @@ impl Memory {
           space = with_zeros self.old.space from (PAGE * count) rights;
         }) }
         ensures err { OnErr result (self.new ≡ self.old) }
+        ensures back { OnOk result (put_back self.new (Note.Made from count) ≡ self.old) }
         ensures text { IsFalse rights.exec → SameText self.old.space self.new.space }
     {
         self.pages.add(alloc, from, count, rights)
@@ -42,10 +45,12 @@ impl Memory {
         requires there { IsSome (map.get self.old.space from) }
         ensures page { result ≡ page_at self.old.space from }
         ensures whole { IsPageOf self.old.space result }
+        ensures below { from + PAGE < 2 ^ 64 }
         ensures gone { self.new ≡ record self.old {
           space = without self.old.space from PAGE;
           spare = self.old.spare + 1;
         } }
+        ensures back { put_back self.new (Note.Gone result) ≡ self.old }
         ensures text { IsFalse result.rights.exec → SameText self.old.space self.new.space }
     {
         self.pages.take_page(from)
@@ -80,6 +85,14 @@ impl Memory {
             → SameText self.old.space self.new.space }
     {
         self.pages.drop_pages(from, count);
+    }
+
+    /// Whether a page begins at an address.
+    pub fn has_page(&self, from: u64) -> bool
+        requires aligned { from % PAGE ≡ 0 }
+        ensures value { result ≡ map.contains_key self.now.space from }
+    {
+        self.pages.has_page(from)
     }
 
     /// The least address of a page that is at least an address; None exactly where there is none.

@@ -1,15 +1,13 @@
 -- The pages of the area of mapped pages, and where further ones fit.
-use Rattle.std.proofs.Common.{◌≡◌, ℕ, zero, suc, ◌+◌, ◌-◌, ◌*◌, ◌/◌, ◌%◌, ◌<◌, ◌≤◌, ◌^◌, ◌&&◌, not, nat_le, Bool, true, false, cond, List, [], ◌∷◌, length, get_or, Option, Some, None, is_some, IsSome, refl, sym, ap, ◌∙◌, ◌≢◌, lit≤, subst, arith, ◌⊎◌, inl, inr, count_by}
-use Rattle.std.specs.List.{find, list_all, range_with_len}
-use Rattle.std.specs.FinMap.{get, contains_key}
+use Rattle.std.proofs.Common.{◌≡◌, ℕ, zero, suc, ◌+◌, ◌-◌, ◌*◌, ◌/◌, ◌%◌, ◌<◌, ◌≤◌, ◌&&◌, not, nat_le, Bool, true, false, cond, List, [], ◌∷◌, length, get_or, Some, None, is_some, refl, sym, ap, ◌∙◌, ◌≢◌, lit≤, subst, arith, ◌⊎◌, inl, inr, count_by}
+use Rattle.std.specs.List.{list_all, range_with_len}
 use Rattle.std.proofs.lemmas.Bool.Decides.{nat_tests, leb_tells, eqb_tells}
 use Rattle.std.proofs.lemmas.List.{get_or_default}
 use Rattle.std.proofs.lemmas.List.Sums.{sum_by-cons}
-use Rattle.guest_words.specs.declared.image.Cell.{Cell}
 use Rattle.guest_words.specs.CallChanges.{area, area_pages, has_page, mapped_pages, are_free, free_place}
 use Rattle.guest_words.proofs.AreaLaws.{area_pages-is, free_place-at, free_place-none}
 use Rattle.guest_pages.specs.declared.page_buffer.PageBuffer.{PageBuffer}
-use Rattle.guest_pages.specs.Buffers.{IsPageBuffer, end_of, holds, cell_in, cells_of, AreSorted, IsCountBefore}
+use Rattle.guest_pages.specs.Buffers.{IsPageBuffer, end_of, cell_in, cells_of, AreSorted, IsCountBefore}
 use Rattle.guest_pages.specs.Stretch.{IsFree, IsPlace}
 use Rattle.guest_pages.proofs.Lookup.{get-cells_of, page_there, ends_before, between_buffers, starts_ascend}
 use Rattle.guest_pages.proofs.Moving.{counts_ascend}

@@ -1,5 +1,5 @@
 -- Bytes put page by page.
-use Rattle.std.proofs.Common.{◌≡◌, ℕ, suc, ◌+◌, ◌-◌, ◌/◌, ◌%◌, ◌<◌, ◌≤◌, ◌&&◌, nat_le, nat_lt, Bool, true, false, List, [], ◌∷◌, ◌++◌, length, get_or, take, drop, Option, Some, None, refl, sym, ap, ◌∙◌, arith, if◌then◌else◌, slice_index}
+use Rattle.std.proofs.Common.{◌≡◌, ℕ, suc, ◌+◌, ◌-◌, ◌/◌, ◌%◌, ◌<◌, ◌≤◌, ◌&&◌, nat_le, nat_lt, Bool, true, false, List, [], ◌∷◌, ◌++◌, length, get_or, take, drop, Some, None, refl, sym, ap, ◌∙◌, arith, if◌then◌else◌, slice_index}
 use Rattle.std.specs.Cmp.{nat_cmp_total}
 use Rattle.std.specs.FinMap.{get, same_map, nat_cmp-IsAntisymmetric}
 use Rattle.std.specs.List.{find}
@@ -8,7 +8,7 @@ use Rattle.std.proofs.lemmas.List.{take-append-drop, take_rest, length-take, len
 use Rattle.guest_words.specs.Space.{Space, with_byte, with_bytes}
 use Rattle.guest_words.proofs.Blanks.{get-with_bytes, overwritten}
 use Rattle.guest_pages.specs.declared.page_buffer.PageBuffer.{PageBuffer}
-use Rattle.guest_pages.specs.Buffers.{end_of, holds, cell_in, cells_of, AreSorted}
+use Rattle.guest_pages.specs.Buffers.{holds, cell_in, cells_of, AreSorted}
 use Rattle.guest_pages.specs.Paged.{Paged}
 use Rattle.guest_pages.proofs.Lookup.{holds_no, find_fails, get-cells_of, find-holder}
 

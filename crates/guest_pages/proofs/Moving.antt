@@ -1,23 +1,21 @@
 -- A page taken out, a page put back, and pages dropped.
-use Rattle.std.proofs.Common.{◌≡◌, ℕ, zero, suc, ◌+◌, ◌-◌, ◌*◌, ◌/◌, ◌%◌, ◌<◌, ◌≤◌, ◌^◌, min, nat_le, nat_lt, ◌&&◌, lit<, Bool, true, false, List, [], ◌∷◌, ◌++◌, length, get_or, take, drop, Option, Some, None, IsSome, refl, sym, ap, ◌∙◌, subst, arith, ◌⊎◌, inl, inr, if◌then◌else◌, slice_index}
+use Rattle.std.proofs.Common.{◌≡◌, ℕ, zero, suc, ◌+◌, ◌-◌, ◌*◌, ◌%◌, ◌<◌, ◌≤◌, ◌^◌, min, nat_le, nat_lt, ◌&&◌, lit<, Bool, true, false, List, [], ◌∷◌, ◌++◌, length, get_or, take, drop, Option, Some, None, IsSome, refl, sym, ap, ◌∙◌, subst, arith, ◌⊎◌, inl, inr, if◌then◌else◌, slice_index}
 use Rattle.std.specs.Cmp.{nat_cmp_total}
 use Rattle.std.specs.FinMap.{get, same_map, nat_cmp-IsAntisymmetric}
 use Rattle.std.specs.List.{find, insert, remove}
 use Rattle.std.proofs.lemmas.Bool.Decides.{leb_tells, nat_tests}
 use Rattle.std.proofs.lemmas.List.{append-nil, append_assoc, get_or_default, same_lists}
-use Rattle.guest_words.specs.declared.image.Rights.{Rights}
 use Rattle.guest_words.specs.declared.image.Cell.{Cell}
-use Rattle.guest_words.specs.declared.image.Page.{Page}
 use Rattle.guest_words.specs.Space.{Space, byte_of, bytes_at, without}
 use Rattle.guest_pages.specs.declared.page_buffer.PageBuffer.{PageBuffer}
 use Rattle.guest_pages.specs.Buffers.{IsPageBuffer, end_of, holds, cell_in, cells_of, AreSorted, IsCountBefore, IsHolder}
-use Rattle.guest_pages.specs.Paged.{rights_of, page_at, with_run, with_page}
+use Rattle.guest_pages.specs.Paged.{rights_of, page_at, with_run}
 use Rattle.guest_pages.specs.Stretch.{IsFree, IsPageOf}
 use Rattle.guest_pages.proofs.Filling.{page_lacks}
-use Rattle.guest_pages.proofs.Lookup.{get-cells_of, get-holder, page_there}
+use Rattle.guest_pages.proofs.Lookup.{get-holder, page_there}
 use Rattle.guest_words.proofs.SpaceLaws.{is_within, get-without}
 use Rattle.guest_pages.proofs.Spaces.{get-with_run}
-use Rattle.guest_pages.proofs.Splicing.{IsSplit, AreWithin, split_at, split_free, split_page, split_past, none_within, one_within, get-one, none_in, sorted-splice, get-splice}
+use Rattle.guest_pages.proofs.Splicing.{IsSplit, split_at, split_free, split_page, split_past, none_within, one_within, get-one, none_in, sorted-splice, get-splice}
 
 -- an inserted element as a list of one
 inserted : {X : Type 0} (xs : List X) (n : ℕ) (y : X) → take n xs ++ (y ∷ []) ++ drop n xs ≡ insert xs n y

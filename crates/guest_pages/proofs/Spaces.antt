@@ -1,10 +1,9 @@
 -- What memory has at an address after bytes come or go.
-use Rattle.std.proofs.Common.{◌≡◌, ℕ, zero, suc, ◌+◌, ◌-◌, ◌<◌, ◌≤◌, ◌&&◌, nat_le, nat_lt, not, subst, Bool, true, false, cond, List, [], ◌∷◌, length, get_or, Option, Some, None, refl, sym, ap, ◌∙◌, arith, inl, inr, if◌then◌else◌, slice_index}
+use Rattle.std.proofs.Common.{◌≡◌, ℕ, suc, ◌+◌, ◌-◌, ◌<◌, ◌≤◌, subst, Bool, true, false, cond, List, [], ◌∷◌, length, Some, refl, sym, ap, ◌∙◌, arith, inl, inr, if◌then◌else◌, slice_index}
 use Rattle.std.specs.Cmp.{nat_cmp_total}
 use Rattle.std.specs.FinMap.{get, get-insert}
 use Rattle.std.proofs.lemmas.Bool.Decides.{nat_tests}
 use Rattle.guest_words.specs.declared.image.Rights.{Rights}
-use Rattle.guest_words.specs.declared.image.Cell.{Cell}
 use Rattle.guest_words.specs.Space.{Space}
 use Rattle.guest_words.proofs.SpaceLaws.{is_within}
 use Rattle.guest_words.proofs.StartMemory.{addresses_tell}

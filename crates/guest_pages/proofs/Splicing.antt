@@ -8,11 +8,9 @@ use Rattle.std.proofs.lemmas.Bool.Decides.{leb_tells, eqb_tells, nat_tests}
 use Rattle.std.proofs.lemmas.List.{get_or-take, get_or-drop, get_or_append_left, get_or-append_right, length-take, length-drop, length-append, take-append-drop, get_or_default, get_or-replicate, length-replicate, get_or_push}
 use Rattle.std.proofs.lemmas.List.Folds.{find-append as list_find-append}
 use Rattle.guest_words.specs.declared.image.Rights.{Rights}
-use Rattle.guest_words.specs.declared.image.Cell.{Cell}
-use Rattle.guest_words.specs.Space.{Space, zero_cell, with_zeros, without}
+use Rattle.guest_words.specs.Space.{zero_cell, with_zeros}
 use Rattle.guest_pages.specs.declared.page_buffer.PageBuffer.{PageBuffer}
 use Rattle.guest_pages.specs.Buffers.{IsPageBuffer, end_of, holds, cell_in, cells_of, AreSorted, AreZeros, IsCountBefore}
-use Rattle.guest_pages.specs.Paged.{with_run}
 use Rattle.guest_pages.specs.Stretch.{IsFree}
 use Rattle.guest_pages.proofs.Lookup.{holds_no, find_fails, get-cells_of, get-holder, starts_ascend, ends_before}
 use Rattle.guest_words.proofs.SpaceLaws.{is_within, get-with_zeros}

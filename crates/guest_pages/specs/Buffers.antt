@@ -84,3 +84,17 @@ pub record AreZeros (from count : ℕ) (rights : Rights) (buffers : List PageBuf
       (k : ℕ) (d : PageBuffer)
       → k < count
       → (slice_index_or buffers k d).bytes.items ≡ replicate PAGE 0
+
+-- a buffer that has what another has
+pub record IsAlike (old new : PageBuffer) : Type 0 where
+  pub from : new.from ≡ old.from
+  pub rights : new.rights ≡ old.rights
+  pub bytes : new.bytes.items ≡ old.bytes.items
+
+-- buffers alike, one by one
+pub record AreAlike (old new : List PageBuffer) : Type 0 where
+  pub long : length new ≡ length old
+  pub each :
+      (k : ℕ) (d : PageBuffer)
+      → k < length old
+      → IsAlike (slice_index_or old k d) (slice_index_or new k d)

@@ -17,6 +17,7 @@ impl Pages {
         requires there { IsSome (map.get self.old.space from) }
         ensures page { result ≡ page_at self.old.space from }
         ensures whole { IsPageOf self.old.space result }
+        ensures below { from + PAGE < 2 ^ 64 }
         ensures gone { self.new ≡ record {
           space = without self.old.space from PAGE;
           spare = self.old.spare + 1;

@@ -1,2 +1,3 @@
 pub mod Rejoined
 pub mod Lending
+pub mod Parts

@@ -1,5 +1,5 @@
 -- Harts and their frames, put together and taken apart.
-use Rattle.std.specs.Prelude.{ℕ, ◌-◌, List, [], ◌∷◌, take, length, Option, Some, None}
+use Rattle.std.specs.Prelude.{◌-◌, List, [], ◌∷◌, take, length, Option, Some, None}
 use Rattle.guest_words.specs.declared.hart.Frame.{Frame}
 use Rattle.guest_words.specs.declared.hart.Hart.{Hart}
 use Rattle.guest_words.specs.declared.hart.Slot.{Slot}
@@ -22,6 +22,7 @@ abbrev pub frames_of : Option Slot → List Frame
 frames_of None = []
 frames_of (Some slot) = slot.frames
 
+-- the last of some frames
 abbrev pub last_of : List Frame → Option Frame
 last_of [] = None
 last_of (frame ∷ []) = Some frame

@@ -8,3 +8,4 @@ pub mod RegisterActs
 pub mod Rows
 pub mod Texts
 mod Walks
+pub mod Waiting

@@ -11,3 +11,4 @@ pub mod Noted
 pub mod Returns
 pub mod Inside
 pub mod Legs
+pub mod Acts

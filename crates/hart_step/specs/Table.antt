@@ -32,6 +32,10 @@ pub record IsTable (m : Space) (points : List Point) (table : List Known) : Type
       → place_of (slice_index_or table k d).pc ≡ k
       → Tells m points (slice_index_or table k d)
 
+-- an instruction as one at address 4
+abbrev pub elsewhere : Known → Known
+elsewhere known = record known { pc = 4 }
+
 -- no instruction stands at the place of its address
 pub record IsBlank (table : List Known) : Type 0 where
   pub long : length table ≡ 4097

@@ -4,10 +4,13 @@
 mod acts;
 mod before;
 mod carry;
+mod changes;
 mod deciding;
 mod did;
 mod engine;
+mod facts;
 mod guest;
+mod guest_changes;
 mod hurry;
 mod known;
 mod leg;

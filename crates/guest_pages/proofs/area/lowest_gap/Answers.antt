@@ -1,4 +1,4 @@
-use Rattle.std.proofs.Common.{◌≡◌, ◌+◌, ◌*◌, ◌<◌, ◌≤◌, ℕ, ap, get_or, length, lit≤, arith}
+use Rattle.std.proofs.Common.{◌+◌, ◌*◌, ◌<◌, ◌≤◌, ℕ, ap, get_or, length, arith}
 use Rattle.std.proofs.lemmas.List.{get_or_default}
 use Rattle.guest_pages.specs.declared.page_buffer.PageBuffer.{PageBuffer}
 use Rattle.guest_pages.proofs.AreaSearch.{lowest_next, lowest_found, place_found, free_found, lowest_none}

@@ -1,4 +1,4 @@
-use Rattle.std.proofs.Common.{arith, ap, ◌+◌, ◌*◌, ◌/◌, ◌∙◌}
+use Rattle.std.proofs.Common.{arith, ap, ◌∙◌}
 use Rattle.std.proofs.lemmas.List.{get_or_default}
 use Rattle.guest_pages.specs.declared.page_buffer.PageBuffer.{PageBuffer}
 use Rattle.guest_pages.proofs.Lookup.{none_held}

@@ -1,4 +1,3 @@
-use Rattle.std.proofs.Common.{arith}
 use Rattle.guest_pages.proofs.Lookup.{page_after, page_none}
 use Rattle.guest_pages.proofs.page_buffer.next_page.Goals as goal
 

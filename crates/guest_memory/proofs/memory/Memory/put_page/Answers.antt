@@ -1,4 +1,4 @@
-use Rattle.std.proofs.Common.{◌≡◌, sym, subst, length}
+use Rattle.std.proofs.Common.{sym, subst}
 use Rattle.guest_pages.specs.Paged.{Paged}
 use Rattle.guest_pages.specs.Stretch.{IsFree}
 use Rattle.guest_memory.specs.Kept.{AddressSpace, IsGuarded}

@@ -1,5 +1,4 @@
 use Rattle.std.proofs.Common.{◌*◌, sym, subst}
-use Rattle.guest_words.specs.Space.{without}
 use Rattle.guest_pages.specs.Paged.{Paged}
 use Rattle.guest_memory.specs.Kept.{AddressSpace, IsGuarded}
 use Rattle.guest_memory.specs.Text.{SameText, HasNoText}

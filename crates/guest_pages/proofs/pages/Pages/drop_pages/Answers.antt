@@ -1,9 +1,9 @@
-use Rattle.std.proofs.Common.{◌≡◌, ◌≤◌, ◌<◌, ◌+◌, ◌-◌, ◌*◌, ◌%◌, ◌^◌, ◌∙◌, ◌++◌, ◌⊎◌, ap, subst, sym, List, ℕ, length, take, drop, arith, length-append, length-drop}
+use Rattle.std.proofs.Common.{◌*◌, ◌∙◌, ap, subst, sym, List, ℕ, length, take, drop, arith, length-append, length-drop}
 use Rattle.std.proofs.lemmas.List.{length-take}
-use Rattle.guest_words.specs.Space.{Space, without}
+use Rattle.guest_words.specs.Space.{without}
 use Rattle.guest_pages.specs.declared.page_buffer.PageBuffer.{PageBuffer}
 use Rattle.guest_pages.specs.Buffers.{AreSorted, IsCountBefore, cells_of}
-use Rattle.guest_pages.proofs.Moving.{Cut, cut_at, counts_ascend, sorted-cut, cells_of-cut}
+use Rattle.guest_pages.proofs.Moving.{cut_at, counts_ascend, sorted-cut, cells_of-cut}
 use Rattle.guest_pages.proofs.Spaces.{bytes_alone}
 use Rattle.guest_pages.proofs.pages.Pages.drop_pages.Goals as goal
 

@@ -1,4 +1,4 @@
-use Rattle.std.proofs.Common.{◌≡◌, ◌≤◌, ◌∙◌, ap, arith, ◌+◌, ◌-◌, drop, length}
+use Rattle.std.proofs.Common.{◌≤◌, ◌∙◌, ap, arith, ◌+◌, ◌-◌, drop, length}
 use Rattle.std.proofs.lemmas.List.{length-drop, take_rest}
 use Rattle.guest_words.specs.Space.{with_bytes}
 use Rattle.guest_pages.specs.Paged.{Paged}

@@ -1,11 +1,10 @@
-use Rattle.std.proofs.Common.{◌≡◌, ◌∙◌, ℕ, Bool, true, false, Option, Some, None, IsSome, is_some, List, refl, ap, sym, subst}
+use Rattle.std.proofs.Common.{◌≡◌, ℕ, Some, None, IsSome, is_some, List, sym, subst}
 use Rattle.std.specs.Bool.{OnTrue, OnFalse}
 use Rattle.std.specs.FinMap.{get}
 use Rattle.std.specs.List.{find}
 use Rattle.std.specs.Option.{IfSome, IfNone}
-use Rattle.guest_words.specs.declared.image.Cell.{Cell}
 use Rattle.guest_pages.specs.declared.page_buffer.PageBuffer.{PageBuffer}
-use Rattle.guest_pages.specs.Buffers.{cells_of, holds, AreSorted, IsHolder}
+use Rattle.guest_pages.specs.Buffers.{holds, IsHolder}
 use Rattle.guest_pages.specs.Paged.{Paged}
 use Rattle.guest_pages.specs.Stretch.{IsFree}
 use Rattle.guest_pages.proofs.Moving.{held_there, page_free}

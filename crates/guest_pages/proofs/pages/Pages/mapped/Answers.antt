@@ -1,4 +1,4 @@
-use Rattle.std.proofs.Common.{◌≡◌, ◌∙◌, ap, subst, List, ℕ, lit≤, arith}
+use Rattle.std.proofs.Common.{◌∙◌, ap, subst, List, ℕ, lit≤, arith}
 use Rattle.guest_words.specs.CallChanges.{mapped_pages}
 use Rattle.guest_pages.specs.declared.page_buffer.PageBuffer.{PageBuffer}
 use Rattle.guest_pages.specs.Buffers.{IsCountBefore}

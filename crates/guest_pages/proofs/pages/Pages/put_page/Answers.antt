@@ -1,7 +1,4 @@
-use Rattle.std.proofs.Common.{◌≡◌, ◌∙◌, ◌-◌, ap, sym, subst, arith, length, List, refl}
-use Rattle.std.specs.List.{insert}
-use Rattle.guest_words.specs.Space.{Space}
-use Rattle.guest_words.specs.declared.image.Rights.{Rights}
+use Rattle.std.proofs.Common.{◌∙◌, ◌-◌, ap, sym, subst, arith, length, List}
 use Rattle.guest_pages.specs.declared.page_buffer.PageBuffer.{PageBuffer}
 use Rattle.guest_pages.specs.Buffers.{AreSorted, IsCountBefore, IsPageBuffer, cells_of}
 use Rattle.guest_pages.specs.Paged.{Paged, with_run, with_page}

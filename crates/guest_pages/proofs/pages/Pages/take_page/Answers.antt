@@ -1,12 +1,12 @@
-use Rattle.std.proofs.Common.{◌≡◌, ◌∙◌, ◌+◌, ◌-◌, ◌<◌, ap, sym, subst, arith, List, get_or, length, suc, add-one, take, drop, ◌++◌, Option, None, IsSome}
+use Rattle.std.proofs.Common.{◌≡◌, ◌∙◌, ◌+◌, ap, sym, subst, arith, List, Option, None, IsSome}
 use Rattle.std.specs.FinMap.{get}
-use Rattle.std.specs.List.{find, remove}
+use Rattle.std.specs.List.{find}
 use Rattle.guest_words.specs.declared.image.Cell.{Cell}
 use Rattle.guest_words.specs.declared.image.Page.{Page}
-use Rattle.guest_words.specs.Space.{Space, without}
+use Rattle.guest_words.specs.Space.{without}
 use Rattle.guest_pages.specs.Stretch.{IsPageOf}
 use Rattle.guest_pages.specs.declared.page_buffer.PageBuffer.{PageBuffer}
-use Rattle.guest_pages.specs.Buffers.{AreSorted, IsHolder, cells_of, cell_in, holds}
+use Rattle.guest_pages.specs.Buffers.{AreSorted, cells_of, cell_in, holds}
 use Rattle.guest_pages.specs.Paged.{Paged, page_at}
 use Rattle.guest_pages.proofs.Lookup.{get-cells_of}
 use Rattle.guest_pages.proofs.Moving.{page_in, page_of_buffer, holder_begins, sorted-remove, cells_of-remove}

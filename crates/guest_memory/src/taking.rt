@@ -1,0 +1,64 @@
+ghost use Rattle.std.specs.Prelude.{◌≡◌, ◌+◌, ◌-◌, ◌*◌, ◌%◌, ◌<◌, ◌≤◌, ◌^◌, IfNone, IfSome, IsSome, true};
+ghost use Rattle.std.specs.FinMap as map;
+ghost use Rattle.guest_words.specs.Space.{without};
+ghost use Rattle.guest_pages.specs.Stretch.{IsFree, IsNextPage};
+ghost use Rattle.guest_memory.specs.Noting.{Notes};
+ghost use Rattle.guest_memory.specs.Text.{HasNoText, SameText};
+
+use crate::memory::Memory;
+use guest_words::limits::PAGE;
+use undo_log::Log;
+
+impl Memory {
+    /// Takes those of so many pages from an address on that are there, and notes each. Takes no
+    /// memory, and leaves room for the pages.
+    pub fn take_pages(&mut self, from: u64, count: u64, log: &mut Log)
+        requires aligned { from % PAGE ≡ 0 }
+        requires room { count ≤ log.old.spare }
+        ensures gone { self.new ≡ record self.old {
+          space = without self.old.space from (PAGE * count);
+          spare = self.new.spare;
+        } }
+        ensures notes { Notes true log.old.notes log.new.notes self.old self.new }
+        ensures room { log.old.spare ≤ log.new.spare + count }
+        ensures text { HasNoText self.old.space from (PAGE * count)
+            → SameText self.old.space self.new.space }
+    {
+        let mut at = from;
+        while let Some(page) = self.page_within(from, count, at) {
+            self.take_noted(page, log);
+            at = page + PAGE;
+        }
+    }
+
+    // The least address of a page that is at least an address, in a range of so many pages.
+    fn page_within(&self, from: u64, count: u64, at: u64) -> Option<u64>
+        requires whole { from % PAGE ≡ 0 }
+        requires aligned { at % PAGE ≡ 0 }
+        requires low { from ≤ at }
+        ensures found { IfSome result (IsNextPage self.now.space at) }
+        ensures below { IfSome result (λ page. page < from + PAGE * count) }
+        ensures none { IfNone result (IsFree self.now.space at (from + PAGE * count - at)) }
+    {
+        match self.page_from(at) {
+            Some(page) if (page - from) / PAGE < count => Some(page),
+            _ => None,
+        }
+    }
+
+    // Takes a page and notes it.
+    fn take_noted(&mut self, from: u64, log: &mut Log)
+        requires aligned { from % PAGE ≡ 0 }
+        requires there { IsSome (map.get self.old.space from) }
+        requires room { 0 < log.old.spare }
+        ensures gone { self.new ≡ record self.old {
+          space = without self.old.space from PAGE;
+          spare = self.old.spare + 1;
+        } }
+        ensures below { from + PAGE < 2 ^ 64 }
+        ensures notes { Notes true log.old.notes log.new.notes self.old self.new }
+        ensures room { log.old.spare ≤ log.new.spare + 1 }
+    {
+        log.note_gone(self.take_page(from));
+    }
+}

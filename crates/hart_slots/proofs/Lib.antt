@@ -1,0 +1,7 @@
+mod EachPart
+mod Joins
+mod LastFrame
+mod OneChange
+mod OneMore
+mod Starting
+mod Waking
