@@ -51,7 +51,7 @@ leg_one noted s t h free wants sees is =
 
 -- two parts, the first of which closes no frame
 pub leg_joined : (noted : Bool) (s t u : State) (h m n : ℕ) → IsLeg noted s t h m → frames_at t h ≡ frames_at s h → IsLeg noted t u h n → IsLeg noted s u h (m + n)
-leg_joined noted s t u h m n first open second =
+leg_joined noted s t u h m n first stays second =
     let there = first.after in
     record {
       legal = can_run-both s h m n first.legal (subst (λ (x : State). IsLeg noted x u h n) there second).legal;
@@ -63,17 +63,17 @@ leg_joined noted s t u h m n first open second =
             let split : m + k ≡ fewer = omega (arith, over) in
             let same : ran t h k ≡ ran s h fewer = ap (λ (x : State). ran x h k) there ∙ sym (ran-both s h m k) ∙ ap (ran s h) split in
             let plain = second.plain k (omega (arith, less, over)) in
-            (ap (λ (x : State). frames_at x h) (sym same) ∙ plain.0 ∙ open, ap (λ (x : State). wants_memory noted x h) (sym same) ∙ plain.1)
+            (ap (λ (x : State). frames_at x h) (sym same) ∙ plain.0 ∙ stays, ap (λ (x : State). wants_memory noted x h) (sym same) ∙ plain.1)
         | inr below ↦ first.plain fewer below.1
       ];
     }
 
 -- an act opens no frame
 pub act_open : (s t : State) (h : ℕ) → t ≡ next s h → (frames_at t h < frames_at s h → ⊥) → frames_at t h ≡ frames_at s h
-act_open s t h is open =
+act_open s t h is stays =
     let few : frames_at (next s h) h ≤ frames_at s h = next_fewer s h h in
     let same : frames_at t h ≡ frames_at (next s h) h = ap (λ (x : State). frames_at x h) is in
     elim (leb_tells (frames_at s h) (frames_at t h)) [
       | inl past ↦ let over = past.1 in omega (arith, few, same, over)
-      | inr below ↦ absurd (open below.1)
+      | inr below ↦ absurd (stays below.1)
     ]

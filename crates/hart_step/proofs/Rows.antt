@@ -41,7 +41,7 @@ set_set [] h x y = refl
 set_set (z ∷ xs) zero x y = refl
 set_set (z ∷ xs) (suc h) x y = ap (λ ys. z ∷ ys) (set_set xs h x y)
 
-set_get : {A : Type 0} (xs : List A) (h : ℕ) (x z : A) → slice_get xs h ≡ Some z → slice_get (set xs h x) h ≡ Some x
+pub set_get : {A : Type 0} (xs : List A) (h : ℕ) (x z : A) → slice_get xs h ≡ Some z → slice_get (set xs h x) h ≡ Some x
 set_get [] h x z is = cc
 set_get (y ∷ xs) zero x z is = refl
 set_get (y ∷ xs) (suc h) x z is = set_get xs h x z is
@@ -49,12 +49,12 @@ set_get (y ∷ xs) (suc h) x z is = set_get xs h x z is
 set_same : {A : Type 0} (xs : List A) (h : ℕ) (x : A) → slice_get xs h ≡ Some x → set xs h x ≡ xs
 set_same xs h x is = ap (set xs h) (sym (get_or_from_slice_get xs h x x is)) ∙ set-get_or xs h x
 
-changed_is : (f : Slot → Slot) (h : ℕ) (slots : List Slot) (slot : Slot) → slice_get slots h ≡ Some slot → changed f h slots ≡ set slots h (f slot)
+pub changed_is : (f : Slot → Slot) (h : ℕ) (slots : List Slot) (slot : Slot) → slice_get slots h ≡ Some slot → changed f h slots ≡ set slots h (f slot)
 unfolding changed
 changed_is f h slots slot is = ap (changed_by f h slots) is
 
 -- the slot with another hart
-abbrev standing : Slot → Hart → Slot
+abbrev pub standing : Slot → Hart → Slot
 standing slot hart = record slot { hart = hart }
 
 -- a change of every slot that matters to one alone
@@ -92,9 +92,9 @@ touched_others from size h slots slot hart free =
 
 last_open : (hart : Hart) (frames : List Frame) → closes (last_of frames) hart ≡ false → close_frames hart frames ≡ frames
 unfolding close_frames
-last_open hart [] open = refl
-last_open hart (frame ∷ []) open = ap (λ b. if b then [] else frame ∷ []) open
-last_open hart (frame ∷ (inner ∷ rest)) open = ap (kept_below hart frame) (last_open hart (inner ∷ rest) open)
+last_open hart [] stays = refl
+last_open hart (frame ∷ []) stays = ap (λ b. if b then [] else frame ∷ []) stays
+last_open hart (frame ∷ (inner ∷ rest)) stays = ap (kept_below hart frame) (last_open hart (inner ∷ rest) stays)
 
 kept_few : (hart : Hart) (frame : Frame) (rest : List Frame) → length (kept_below hart frame rest) ≤ length rest + 1
 kept_few hart frame [] = by (is_over hart frame)
@@ -137,7 +137,7 @@ module _ (s : State) (h : ℕ) (slot : Slot) (at : slice_get s.slots h ≡ Some 
   frames = length slot.frames
 
   -- the state with the hart and memory after so many acts
-  pub in_row : Lone → ℕ → State
+  unfoldable pub in_row : Lone → ℕ → State
   in_row l n = record s { memory = l.memory.space; slots = set s.slots h (standing slot l.hart); steps = s.steps + n }
 
   slot_in_row : (l : Lone) (n : ℕ) → slice_get (in_row l n).slots h ≡ Some (standing slot l.hart)
@@ -145,17 +145,20 @@ module _ (s : State) (h : ℕ) (slot : Slot) (at : slice_get s.slots h ≡ Some 
   slot_in_row l n = set_get s.slots h (standing slot l.hart) slot at
 
   -- with its frames closed
+
+  pub closed_standing : (hart : Hart) → changed closed h (set s.slots h (standing slot hart)) ≡ set s.slots h (closed (standing slot hart))
+  closed_standing hart =
+      changed_is closed h (set s.slots h (standing slot hart)) (standing slot hart) (set_get s.slots h (standing slot hart) slot at) ∙ set_set s.slots h (standing slot hart) (closed (standing slot hart))
+
   closed_in_row : (l : Lone) (n : ℕ) → with_closed (in_row l n) h ≡ record (in_row l n) { slots = set s.slots h (closed (standing slot l.hart)) }
   unfolding in_row
-  closed_in_row l n =
-      ap (λ slots. record (in_row l n) { slots = slots })
-      (changed_is closed h (in_row l n).slots (standing slot l.hart) (slot_in_row l n) ∙ set_set s.slots h (standing slot l.hart) (closed (standing slot l.hart)))
+  closed_in_row l n = ap (λ slots. record (in_row l n) { slots = slots }) (closed_standing l.hart)
 
   open_in_row : (l : Lone) (n : ℕ) → closes (last_of slot.frames) l.hart ≡ false → with_closed (in_row l n) h ≡ in_row l n
   unfolding in_row
-  open_in_row l n open =
+  open_in_row l n stays =
       closed_in_row l n
-      ∙ ap (λ frames. record (in_row l n) { slots = set s.slots h (record { hart = l.hart; frames = frames }) }) (last_open l.hart slot.frames open)
+      ∙ ap (λ frames. record (in_row l n) { slots = set s.slots h (record { hart = l.hart; frames = frames }) }) (last_open l.hart slot.frames stays)
 
   module _ (free : IsFreeBut h (map hart_of s.slots)) where
     -- the hart and a store of its act
@@ -236,10 +239,10 @@ module _ (s : State) (h : ℕ) (slot : Slot) (at : slice_get s.slots h ≡ Some 
 
       pub reach : (n : ℕ) → s.steps + n ≤ s.budget → all_go s.points frames n start ≡ true → stays_open s.points frames top n start ≡ true → Reached n
       unfolding after_acts all_go stays_open
-      reach zero within goes open = record { is = ran-none s h ∙ sym starts; legal = can_run-none s h; ready = ap (λ (x : Hart). is_ready x.state) hart ∙ ready }
-      reach (suc n) within goes open =
+      reach zero within goes stays = record { is = ran-none s h ∙ sym starts; legal = can_run-none s h; ready = ap (λ (x : Hart). is_ready x.state) hart ∙ ready }
+      reach (suc n) within goes stays =
           let going = and_parts (all_go s.points frames n start) _ goes in
-          let opens = and_parts (stays_open s.points frames top n start) _ open in
+          let opens = and_parts (stays_open s.points frames top n start) _ stays in
           let before = reach n (omega (arith, within)) going.0 opens.0 in
           let one : suc n ≡ n + 1 = omega arith in
           let l = row n in
@@ -261,10 +264,10 @@ module _ (s : State) (h : ℕ) (slot : Slot) (at : slice_get s.slots h ≡ Some 
 
       open_fewer : (k d : ℕ) → stays_open s.points frames top (k + d) start ≡ true → stays_open s.points frames top k start ≡ true
       unfolding stays_open
-      open_fewer k zero open = let none : k ≡ k + 0 = omega arith in ap (λ n. stays_open s.points frames top n start) none ∙ open
-      open_fewer k (suc d) open =
+      open_fewer k zero stays = let none : k ≡ k + 0 = omega arith in ap (λ n. stays_open s.points frames top n start) none ∙ stays
+      open_fewer k (suc d) stays =
           let one : suc (k + d) ≡ k + suc d = omega arith in
-          open_fewer k d ((and_parts (stays_open s.points frames top (k + d) start) _ (ap (λ n. stays_open s.points frames top n start) one ∙ open)).0)
+          open_fewer k d ((and_parts (stays_open s.points frames top (k + d) start) _ (ap (λ n. stays_open s.points frames top n start) one ∙ stays)).0)
 
       goes_at : (k : ℕ) → all_go s.points frames (suc k) start ≡ true → is_next (act_at s.points frames (row k)) ≡ true
       unfolding all_go
@@ -291,48 +294,54 @@ module _ (s : State) (h : ℕ) (slot : Slot) (at : slice_get s.slots h ≡ Some 
 
       -- before each of so many acts, of which the last may close a frame
       pub plain_row : (noted : Bool) (n : ℕ) → s.steps + n ≤ s.budget → all_go s.points frames (n + 1) start ≡ true → stays_open s.points frames top n start ≡ true → IsPlainRow noted s h (n + 1)
-      plain_row noted n within goes open = λ k less.
+      plain_row noted n within goes stays = λ k less.
           let d = n - k in
           let all : k + d ≡ n = omega (arith, less) in
           let more : suc k + d ≡ n + 1 = omega (arith, less) in
           let going = go_fewer (suc k) d (ap (λ j. all_go s.points frames j start) more ∙ goes) in
           let one : k + 1 ≡ suc k = omega arith in
           plain_at noted k
-          (reach k (omega (arith, within, less)) (go_fewer k 1 (ap (λ j. all_go s.points frames j start) one ∙ going)) (open_fewer k d (ap (λ j. stays_open s.points frames top j start) all ∙ open)))
+          (reach k (omega (arith, within, less)) (go_fewer k 1 (ap (λ j. all_go s.points frames j start) one ∙ going)) (open_fewer k d (ap (λ j. stays_open s.points frames top j start) all ∙ stays)))
           (goes_at k going)
 
       -- the state at the end of a row
-      pub row_end : Lone → ℕ → Bool → State
+      unfoldable pub row_end : Lone → ℕ → Bool → State
       row_end l n true = with_closed (in_row l n) h
       row_end l n false = in_row l n
 
+      pub row_end_is : (end : Lone) (n : ℕ) (done : Bool) → row_end end n done
+          ≡ record s { memory = end.memory.space; slots = if done then changed closed h (set s.slots h (standing slot end.hart)) else set s.slots h (standing slot end.hart); steps = s.steps + n }
+      unfolding in_row row_end
+      row_end_is end n true = refl
+      row_end_is end n false = refl
+
       open_leg : (noted : Bool) (n : ℕ) → s.steps + n ≤ s.budget → all_go s.points frames n start ≡ true → stays_open s.points frames top n start ≡ true
           → IsLeg noted s (in_row (row n) n) h n
-      open_leg noted zero within goes open =
-          let reached = reach 0 within goes open in
+      open_leg noted zero within goes stays =
+          let reached = reach 0 within goes stays in
           record { legal = reached.legal; after = sym reached.is; plain = λ fewer less. absurd (omega (arith, less)) }
-      open_leg noted (suc n) within goes open =
-          let reached = reach (suc n) within goes open in
+      open_leg noted (suc n) within goes stays =
+          let reached = reach (suc n) within goes stays in
           let one : n + 1 ≡ suc n = omega arith in
           record {
             legal = reached.legal;
             after = sym reached.is;
-            plain = subst (IsPlainRow noted s h) one (plain_row noted n (omega (arith, within)) (ap (λ j. all_go s.points frames j start) one ∙ goes) (open_fewer n 1 (ap (λ j. stays_open s.points frames top j start) one ∙ open)));
+            plain = subst (IsPlainRow noted s h) one (plain_row noted n (omega (arith, within)) (ap (λ j. all_go s.points frames j start) one ∙ goes) (open_fewer n 1 (ap (λ j. stays_open s.points frames top j start) one ∙ stays)));
           }
 
       closed_leg : (noted : Bool) (n : ℕ) → s.steps + (n + 1) ≤ s.budget → all_go s.points frames (n + 1) start ≡ true → stays_open s.points frames top n start ≡ true
           → IsLeg noted s (with_closed (in_row (row (n + 1)) (n + 1)) h) h (n + 1)
       unfolding after_acts
-      closed_leg noted n within goes open =
+      closed_leg noted n within goes stays =
           let one : n + 1 ≡ suc n = omega arith in
           let going = ap (λ j. all_go s.points frames j start) (sym one) ∙ goes in
-          let before = reach n (omega (arith, within)) (go_fewer n 1 goes) open in
+          let before = reach n (omega (arith, within)) (go_fewer n 1 goes) stays in
           let l = row n in
           let next_goes = goes_at n going in
           record {
             legal = can_run-more s h n before.legal (ap (λ (t : State). can_go t h) before.is ∙ can_go_in_row l n before.ready left (omega (arith, within)) next_goes);
             after = sym (ran-more s h n ∙ ap (λ (t : State). next t h) before.is ∙ next_in_row l n next_goes ∙ ap (λ j. with_closed (in_row (row j) (n + 1)) h) (sym one));
-            plain = plain_row noted n (omega (arith, within)) goes open;
+            plain = plain_row noted n (omega (arith, within)) goes stays;
           }
 
       -- a row is part of a run

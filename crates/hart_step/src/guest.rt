@@ -19,13 +19,8 @@ use undo_log::Log;
 pub struct Guest {
     pub(crate) memory: Memory,
     pub(crate) points: Points,
-<<<<<<< HEAD
-    recent: Recent,
-    table: Vec<Known>,
-=======
     pub(crate) recent: Recent,
     pub(crate) table: Vec<Known>,
->>>>>>> d9821a703a8e49f2c3a589103a5256159f8d154e
 }
 
 impl Model for Guest {
