@@ -23,23 +23,23 @@ and_all : (b : Bool) → b ≡ (b && true)
 and_all true = refl
 and_all false = refl
 
+abbrev WantsByRequest : Bool → Hart → Act → Type 0
+WantsByRequest noted hart a = act_wants noted a ≡ (can_want noted (request_of hart) && is_call a)
+
+abbrev IsNoCall : Act → Type 0
+IsNoCall a = is_call a ≡ false
+
 -- a call that can want memory is known by its request
 pub wants_call : (noted : Bool) (m : Space) (points : List Point) (frames : ℕ) (hart : Hart)
     → act_wants noted (hart_act m points frames hart) ≡ (can_want noted (request_of hart) && is_call (hart_act m points frames hart))
-wants_call noted m points frames hart = hart_act_by P m hart cases points frames (λ point at. and_none asked)
+wants_call noted m points frames hart = hart_act_by (WantsByRequest noted hart) m hart cases points frames (λ point at. and_none _)
   where
-    abbrev asked : Bool
-    asked = can_want noted (request_of hart)
-
-    abbrev P : Act → Type 0
-    P a = act_wants noted a ≡ (asked && is_call a)
-
-    cases : InstCases P m hart
+    cases : InstCases (WantsByRequest noted hart) m hart
     cases = record {
-      next = λ after same. and_none asked;
-      store = λ after place width value same may. and_none asked;
-      fault = λ name. and_none asked;
-      call = λ inst at kind. and_all asked;
+      next = λ after same. and_none _;
+      store = λ after place width value same may. and_none _;
+      fault = λ name. and_none _;
+      call = λ inst at kind. and_all _;
     }
 
 pub call_arrived : (m : Space) (points : List Point) (frames : ℕ) (hart : Hart) (point : PointRef) → arrival_of points frames hart ≡ Some point → false ≡ is_call (hart_act m points frames hart)
@@ -52,12 +52,9 @@ call_at m points frames hart inst none at kind =
 
 -- no instruction there that is a call
 pub call_none : (m : Space) (points : List Point) (frames : ℕ) (hart : Hart) → ((inst : Inst) → inst_at m hart.pc ≡ Some inst → class_of inst.op ≢ class.Call) → false ≡ is_call (hart_act m points frames hart)
-call_none m points frames hart other = sym (hart_act_by P m hart cases points frames (λ point at. refl))
+call_none m points frames hart other = sym (hart_act_by IsNoCall m hart cases points frames (λ point at. refl))
   where
-    abbrev P : Act → Type 0
-    P a = is_call a ≡ false
-
-    cases : InstCases P m hart
+    cases : InstCases IsNoCall m hart
     cases = record {
       next = λ after same. refl;
       store = λ after place width value same may. refl;

@@ -1,7 +1,7 @@
 pub mod Acting
 pub mod Blanking
 pub mod Calling
-pub mod Hurry
+pub mod Hurried
 pub mod InARow
 pub mod Legs
 pub mod Made

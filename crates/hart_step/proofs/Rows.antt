@@ -1,8 +1,8 @@
 -- Instructions of a hart in a row, as acts in a state.
-use Rattle.std.proofs.Common.{◌≡◌, ◌≢◌, ℕ, zero, suc, ◌+◌, ◌-◌, ◌<◌, ◌≤◌, Bool, true, false, not, ◌&&◌, ◌||◌, ◌==◌, nat_lt, List, [], ◌∷◌, length, get_or, set, map, slice_get, slice_index_or, if◌then◌else◌, Option, Some, None, option_map, refl, ap, sym, ◌∙◌, subst, arith, inl, inr, length-map, length-set}
+use Rattle.std.proofs.Common.{◌≡◌, ◌≢◌, ℕ, zero, suc, ◌+◌, ◌-◌, ◌<◌, ◌≤◌, Bool, true, false, not, ◌&&◌, ◌||◌, ◌==◌, nat_lt, List, [], ◌∷◌, length, get_or, set, map, slice_get, slice_index_or, if◌then◌else◌, Option, Some, None, option_map, refl, ap, sym, ◌∙◌, subst, arith, inl, inr, length-set}
 use Rattle.std.proofs.lemmas.Bool.{and_from, and_parts, or_from, or_parts}
 use Rattle.std.proofs.lemmas.Bool.Decides.{eqb_tells, nat_tests}
-use Rattle.std.proofs.lemmas.List.{get_or-map, get_or-set_other, set-get_or}
+use Rattle.std.proofs.lemmas.List.{get_or-map, length-map, set-get_or}
 use Rattle.std.proofs.lemmas.Option.{get_or_from_slice_get, slice_get_within}
 use Rattle.guest_words.specs.declared.act.Act.{Act}
 use Rattle.guest_words.specs.declared.act.Act.TheVariants as act
@@ -84,7 +84,7 @@ touched_others from size h slots slot hart free =
     map_set (on_hart (touched from size)) slots h (standing slot hart) (λ k d apart less.
     let other = get_or slots k d in
     let reads : get_or (map hart_of slots) k d.hart ≡ other.hart = get_or-map hart_of slots k d d.hart less in
-    let count : length (map hart_of slots) ≡ length slots = length-map hart_of slots in
+    let count : length (map hart_of slots) ≡ length slots = length-map slots hart_of in
     let none : other.hart.reservation ≡ None = ap (λ (x : Hart). x.reservation) (sym reads) ∙ free k apart d.hart (omega (arith, less, count)) in
     ap (standing other) (touched_free from size other.hart none))
 
@@ -117,14 +117,14 @@ last_closes hart (frame ∷ (inner ∷ rest)) over =
 
 -- an act of a hart in a row
 
+abbrev LeavesState : Hart → Act → Type 0
+LeavesState hart a = (hart_after a hart).state ≡ hart.state
+
 -- a hart is as ready after an instruction as before
 pub same_state : (m : Space) (points : List Point) (frames : ℕ) (hart : Hart) → (hart_after (hart_act m points frames hart) hart).state ≡ hart.state
-same_state m points frames hart = hart_act_by P m hart cases points frames (λ point at. refl)
+same_state m points frames hart = hart_act_by (LeavesState hart) m hart cases points frames (λ point at. refl)
   where
-    abbrev P : Act → Type 0
-    P a = (hart_after a hart).state ≡ hart.state
-
-    cases : InstCases P m hart
+    cases : InstCases (LeavesState hart) m hart
     cases = record {
       next = λ after same. same;
       store = λ after place width value same may. same;
@@ -216,10 +216,10 @@ module _ (s : State) (h : ℕ) (slot : Slot) (at : slice_get s.slots h ≡ Some 
       row n = after_acts s.points frames n start
 
       -- the state after so many acts
-      record Reached (n : ℕ) : Type 0 where
+      pub record Reached (n : ℕ) : Type 0 where
         pub is : ran s h n ≡ in_row (row n) n
         pub legal : can_run s h n ≡ true
-        pub ready : is_ready (row n).hart.state ≡ true
+        pub goes_on : is_ready (row n).hart.state ≡ true
 
       starts : in_row start 0 ≡ s
       unfolding in_row
@@ -239,7 +239,7 @@ module _ (s : State) (h : ℕ) (slot : Slot) (at : slice_get s.slots h ≡ Some 
 
       pub reach : (n : ℕ) → s.steps + n ≤ s.budget → all_go s.points frames n start ≡ true → stays_open s.points frames top n start ≡ true → Reached n
       unfolding after_acts all_go stays_open
-      reach zero within goes stays = record { is = ran-none s h ∙ sym starts; legal = can_run-none s h; ready = ap (λ (x : Hart). is_ready x.state) hart ∙ ready }
+      reach zero within goes stays = record { is = ran-none s h ∙ sym starts; legal = can_run-none s h; goes_on = ap (λ (x : Hart). is_ready x.state) hart ∙ ready }
       reach (suc n) within goes stays =
           let going = and_parts (all_go s.points frames n start) _ goes in
           let opens = and_parts (stays_open s.points frames top n start) _ stays in
@@ -249,8 +249,8 @@ module _ (s : State) (h : ℕ) (slot : Slot) (at : slice_get s.slots h ≡ Some 
           record {
             is = ap (ran s h) one ∙ ran-more s h n ∙ ap (λ (t : State). next t h) before.is ∙ next_in_row l n going.1
                 ∙ open_in_row (row (suc n)) (n + 1) (not_true _ opens.1) ∙ ap (in_row (row (suc n))) (sym one);
-            legal = ap (can_run s h) one ∙ can_run-more s h n before.legal (ap (λ (t : State). can_go t h) before.is ∙ can_go_in_row l n before.ready left (omega (arith, within)) going.1);
-            ready = still_ready l before.ready;
+            legal = ap (can_run s h) one ∙ can_run-more s h n before.legal (ap (λ (t : State). can_go t h) before.is ∙ can_go_in_row l n before.goes_on left (omega (arith, within)) going.1);
+            goes_on = still_ready l before.goes_on;
           }
 
       -- the first of them
@@ -339,7 +339,7 @@ module _ (s : State) (h : ℕ) (slot : Slot) (at : slice_get s.slots h ≡ Some 
           let l = row n in
           let next_goes = goes_at n going in
           record {
-            legal = can_run-more s h n before.legal (ap (λ (t : State). can_go t h) before.is ∙ can_go_in_row l n before.ready left (omega (arith, within)) next_goes);
+            legal = can_run-more s h n before.legal (ap (λ (t : State). can_go t h) before.is ∙ can_go_in_row l n before.goes_on left (omega (arith, within)) next_goes);
             after = sym (ran-more s h n ∙ ap (λ (t : State). next t h) before.is ∙ next_in_row l n next_goes ∙ ap (λ j. with_closed (in_row (row j) (n + 1)) h) (sym one));
             plain = plain_row noted n (omega (arith, within)) goes stays;
           }

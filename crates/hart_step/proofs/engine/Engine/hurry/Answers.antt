@@ -10,11 +10,12 @@ use Rattle.std.specs.Prelude.{true, false, map}
 use Rattle.guest_words.specs.State.{frames_at}
 use Rattle.hart_step.specs.Legs.{IsLeg}
 use Rattle.hart_step.specs.Live.{space_of, Live}
-use Rattle.hart_step.proofs.Hurry.{hurried, after_row, Hurried}
+use Rattle.hart_step.specs.declared.engine.Engine.TheInside.{Inside}
+use Rattle.hart_step.proofs.Hurried.{hurried, after_row, Hurried}
 use Rattle.hart_step.proofs.engine.Engine.hurry.Goals as goal
 
 module _ (c : goal.After-self-1) where
-  abbrev inside : _
+  abbrev inside : Inside
   inside = c.self.inside
 
   abbrev before : Live
