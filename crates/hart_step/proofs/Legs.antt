@@ -1,18 +1,21 @@
 -- Parts of a row of acts.
-use Rattle.std.proofs.Common.{◌≡◌, ◌≢◌, ℕ, ◌+◌, ◌-◌, ◌<◌, ◌≤◌, Bool, true, false, not, ◌&&◌, ◌||◌, Some, refl, ap, sym, ◌∙◌, subst, arith, inl, inr}
+use Rattle.std.proofs.Common.{◌≡◌, ◌≢◌, ℕ, ◌+◌, ◌-◌, ◌<◌, ◌≤◌, Bool, true, false, not, ◌&&◌, ◌||◌, length, slice_get, Option, Some, None, refl, ap, sym, ◌∙◌, subst, arith, inl, inr}
 use Rattle.std.proofs.lemmas.Bool.{and_from, or_parts}
 use Rattle.std.proofs.lemmas.Bool.Decides.{leb_tells}
+use Rattle.std.proofs.lemmas.Option.{slice_get_within}
+use Rattle.guest_words.specs.declared.hart.Slot.{Slot}
 use Rattle.guest_words.specs.Act.{StateAct, Ordinary, Fault, Request, Arrival, End, Absent, act_of}
 use Rattle.guest_words.specs.Endings.{is_budget_spent}
 use Rattle.guest_words.specs.State.{State, frames_at}
 use Rattle.run_history.specs.After.{next, ran}
-use Rattle.run_history.specs.Legal.{can_go, is_ordinary, is_ready_at}
+use Rattle.run_history.specs.Legal.{can_go, is_ordinary, is_ready_at, is_ready_slot}
 use Rattle.run_history.proofs.FewerFrames.{next_fewer}
 use Rattle.run_history.proofs.RunSteps.{can_run-both, can_run-none, can_run-one, ran-both, ran-none, ran-one}
+use Rattle.hart_step.specs.declared.next_act.NextAct.{NextAct}
 use Rattle.hart_step.specs.declared.next_act.NextAct.TheVariants as next_act
 use Rattle.hart_step.specs.Legs.{IsLeg}
-use Rattle.hart_step.specs.Sees.{named, Sees}
-use Rattle.hart_step.specs.Stops.{is_held, wants_memory}
+use Rattle.hart_step.specs.Sees.{is_ordinary_act, named, Sees}
+use Rattle.hart_step.specs.Stops.{is_held, wants_memory, Stops, StopsAt}
 
 -- a hart that isn't held is ready, and the budget isn't spent
 pub free_ready : (s : State) (h : ℕ) → is_held s h ≡ false → is_ready_at s h ≡ true
@@ -77,3 +80,41 @@ act_open s t h is stays =
       | inl past ↦ let over = past.1 in omega (arith, few, same, over)
       | inr below ↦ absurd (stays below.1)
     ]
+
+-- a ready hart is in a slot that is there
+pub ready_within : (s : State) (h : ℕ) → is_ready_at s h ≡ true → h < length s.slots
+ready_within s h ready = by (slice_get s.slots h) refl ready
+  where
+    by : (o : Option Slot) → slice_get s.slots h ≡ o → is_ready_slot o ≡ true → h < length s.slots
+    by None is e = cc
+    by (Some slot) is e = slice_get_within s.slots h slot is
+
+-- a part without acts
+
+pub leg_empty : (noted : Bool) (s t : State) (h n : ℕ) → t ≡ s → n ≡ 0 → IsLeg noted s t h n
+leg_empty noted s t h n same none = subst (λ k. IsLeg noted s t h k) (sym none) (subst (λ (u : State). IsLeg noted s u h 0) (sym same) (leg_none noted s h))
+
+pub leg_still : (noted : Bool) (s t : State) (h n : ℕ) → IsLeg noted s t h n → n ≡ 0 → t ≡ s
+leg_still noted s t h n leg none = leg.after ∙ ap (ran s h) none ∙ ran-none s h
+
+-- acts that aren't ordinary stop a row
+
+pub other_act : (is : NextAct) → (is ≡ next_act.Ordinary → ⊥) → is_ordinary_act is ≡ false
+other_act next_act.Ordinary other = absurd (other refl)
+other_act (next_act.Fault name) other = refl
+other_act (next_act.Request ask) other = refl
+other_act (next_act.Arrival point) other = refl
+other_act (next_act.End code) other = refl
+
+pub stops_other : (noted : Bool) (s : State) (h : ℕ) (is : NextAct) → is_ordinary_act is ≡ false → Sees s h is → is_held s h ≡ false → StopsAt noted s h is
+stops_other noted s h next_act.Ordinary other sees free = absurd (cc)
+stops_other noted s h (next_act.Fault name) other sees free = record { act = sees; reason = tt; free = free }
+stops_other noted s h (next_act.Request ask) other sees free = record { act = sees; reason = tt; free = free }
+stops_other noted s h (next_act.Arrival point) other sees free = record { act = sees; reason = tt; free = free }
+stops_other noted s h (next_act.End code) other sees free = record { act = sees; reason = tt; free = free }
+
+-- what stops a part that begins with as many frames stops the whole
+pub stops_whole : (noted : Bool) (s t u : State) (h : ℕ) (next : Option NextAct) → frames_at t h ≡ frames_at s h → Stops noted t u h next → Stops noted s u h next
+stops_whole noted s t u h None same (inl held) = inl held
+stops_whole noted s t u h None same (inr fewer) = inr (omega (arith, same, fewer))
+stops_whole noted s t u h (Some is) same stops = stops

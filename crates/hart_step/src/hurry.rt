@@ -30,7 +30,7 @@ impl Engine {
         requires room { noted ≡ true → most ≤ log.old.spare }
         ensures within { result.count ≤ most }
         ensures leg { IsLeg noted self.old.state self.new.state hart result.count }
-        ensures open { result.closed ≡ false
+        ensures stays { result.closed ≡ false
             → frames_at self.new.state hart ≡ frames_at self.old.state hart }
         ensures closed { result.closed ≡ true
             → frames_at self.new.state hart < frames_at self.old.state hart }

@@ -57,7 +57,7 @@ impl Engine {
         ensures within { result.count ≤ most }
         ensures leg { IsLeg noted self.old.state self.new.state hart result.count }
         ensures more { result.is_last ≡ false → 0 < result.count }
-        ensures open { result.is_last ≡ false
+        ensures stays { result.is_last ≡ false
             → frames_at self.new.state hart ≡ frames_at self.old.state hart }
         ensures stops { result.is_last ≡ true
             → Stops noted self.old.state self.new.state hart result.next }
@@ -88,7 +88,7 @@ impl Engine {
         ensures within { result.count ≤ 1 }
         ensures leg { IsLeg noted self.old.state self.new.state hart result.count }
         ensures more { result.is_last ≡ false → 0 < result.count }
-        ensures open { result.is_last ≡ false
+        ensures stays { result.is_last ≡ false
             → frames_at self.new.state hart ≡ frames_at self.old.state hart }
         ensures stops { result.is_last ≡ true
             → Stops noted self.old.state self.new.state hart result.next }

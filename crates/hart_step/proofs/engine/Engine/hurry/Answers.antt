@@ -30,7 +30,12 @@ module _ (c : goal.After-self-1) where
   abbrev is : before ≡ c.args.self.now
   is = c.self.view_is
 
-  abbrev done : Hurried c.args.noted before.state c.args.hart c.in_row-ran.result.count c.in_row-ran.result.closed inside.guest.memory c.in_row-ran.new.guest.memory (after_row before.state c.args.hart c.in_row-ran.result.count inside.guest.memory c.in_row-ran.new.guest.memory c.in_row-ran.new.slots c.close_where.new.slots c.in_row-ran.new.guest.points c.from-2.result)
+  abbrev new : State
+  new =
+      after_row before.state c.args.hart c.in_row-ran.result.count inside.guest.memory c.in_row-ran.new.guest.memory c.in_row-ran.new.slots c.close_where.new.slots
+      c.in_row-ran.new.guest.points c.from-2.result
+
+  abbrev done : Hurried c.args.noted before.state c.args.hart c.in_row-ran.result.count c.in_row-ran.result.closed inside.guest.memory c.in_row-ran.new.guest.memory new
   done =
       let few = c.in_row-ran.ensures.within in
       let least = c.min-most.ensures in
@@ -61,10 +66,10 @@ invariant_of-self c =
     }
 
 pub returns-clause-leg : goal.returns-clause-leg
-returns-clause-leg c = subst (λ (l : Live). IsLeg c.args.noted l.state _ c.args.hart c.in_row-ran.result.count) (is c) (done c).leg
+returns-clause-leg c = subst (λ (l : Live). IsLeg c.args.noted l.state (new c) c.args.hart c.in_row-ran.result.count) (is c) (done c).leg
 
-pub returns-clause-open : goal.returns-clause-open
-returns-clause-open c = λ stays. (done c).stays stays ∙ ap (λ (l : Live). frames_at l.state c.args.hart) (is c)
+pub returns-clause-stays : goal.returns-clause-stays
+returns-clause-stays c = λ stays. (done c).stays stays ∙ ap (λ (l : Live). frames_at l.state c.args.hart) (is c)
 
 pub returns-clause-closed : goal.returns-clause-closed
-returns-clause-closed c = λ over. subst (λ (l : Live). _ < frames_at l.state c.args.hart) (is c) ((done c).over over)
+returns-clause-closed c = λ over. subst (λ (l : Live). frames_at (new c) c.args.hart < frames_at l.state c.args.hart) (is c) ((done c).over over)
