@@ -59,8 +59,7 @@ returns-in_default c =
       stays = λ on. ap (λ (u : State). frames_at u c.args.hart) back;
       stops = λ last.
           subst (λ (next : Option NextAct). Stops c.args.noted s t c.args.hart next) (sym (ap (λ (l : Leg). l.next) value))
-          (subst (λ (u : State). Stops c.args.noted s u c.args.hart (Some c.in_default.next)) (sym back)
-          (subst (λ (n : NextAct). StopsAt c.args.noted s c.args.hart n) (sym c.in_default.next-is) (stops_other c.args.noted s c.args.hart is other c.advance_free.ensures.value c.requires.free)));
+          (subst (λ (u : State). Stops c.args.noted s u c.args.hart (Some is)) (sym back) (stops_other c.args.noted s c.args.hart is other c.advance_free.ensures.value c.requires.free));
       notes = c.advance_free.ensures.notes;
       room = omega (arith, log, none);
     }

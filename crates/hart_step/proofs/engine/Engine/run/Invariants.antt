@@ -12,5 +12,5 @@ invariant-loop l = record {
   stays : frames_at l.self.state l.hart ≡ frames_at l.fn.self.state l.hart;
   notes : Notes l.noted l.fn.log.notes l.log.notes (space_of l.fn.self) (space_of l.self);
   room : l.fn.log.spare ≤ l.log.spare + l.count;
-  turns : ?;
+  turns : l.counter ≤ l.count;
 }
