@@ -123,7 +123,7 @@ module _ (s : State) (h n : ℕ) (old new : AddressSpace) (mid : List Slot) wher
       let steps : s.steps + k ≡ s.steps + n = ap (λ j. s.steps + j) count in
       let slots : last ≡ (if done then changed closed h (set s.slots h (standing slot run.end)) else set s.slots h (standing slot run.end)) = lasts ∙ ap (λ m. if done then changed closed h m else m) put in
       let there : after_row last points k ≡ row_end s h slot at free start refl memory own left end n done =
-          (λ i. record s { memory = new.space; low = lows i; brk = breaks i; slots = slots i; points = same_points i; steps = steps i }) ∙ sym (row_end_is s h slot at free start refl memory own left end n done) in
+      (λ i. record s { memory = new.space; low = lows i; brk = breaks i; slots = slots i; points = same_points i; steps = steps i }) ∙ sym (row_end_is s h slot at free start refl memory own left end n done) in
       record {
         leg = subst (λ (t : State). IsLeg noted s t h n) (sym there) (leg_row s h slot at free start refl memory own left noted end n done within run.row);
         stays = λ is. ap (λ (t : State). frames_at t h) (there ∙ ap (row_end s h slot at free start refl memory own left end n) is) ∙ row_open s h slot at free start refl memory own left end n;

@@ -286,8 +286,7 @@ module _ (s : State) (h : ℕ) (slot : Slot) (at : slice_get s.slots h ≡ Some 
           → (frames_at (ran s h k) h ≡ frames_at s h) × (wants_memory noted (ran s h k) h ≡ false)
       unfolding in_row
       plain_at noted k reached goes =
-          let there = ap (λ (t : State). slice_get t.slots h) reached.is ∙ slot_in_row (row k) k in
-          (
+          let there = ap (λ (t : State). slice_get t.slots h) reached.is ∙ slot_in_row (row k) k in (
             ap frame_count there ∙ sym frames_before,
             ap (λ (t : State). wants_memory noted t h) reached.is ∙ ap (slot_wants noted (in_row (row k) k)) (slot_in_row (row k) k) ∙ next_free noted (act_at s.points frames (row k)) goes,
           )
@@ -365,6 +364,6 @@ module _ (s : State) (h : ℕ) (slot : Slot) (at : slice_get s.slots h ≡ Some 
       row_closed end n over =
           let fewer = last_closes end.hart slot.frames over in
           let here : frames_at (with_closed (in_row end n) h) h ≡ length (close_frames end.hart slot.frames) =
-              ap (λ (t : State). frames_at t h) (closed_in_row end n) ∙ ap frame_count (set_get s.slots h (closed (standing slot end.hart)) slot at) in
+          ap (λ (t : State). frames_at t h) (closed_in_row end n) ∙ ap frame_count (set_get s.slots h (closed (standing slot end.hart)) slot at) in
           let before = frames_before in
           omega (arith, fewer, here, before)

@@ -1,15 +1,13 @@
-use Rattle.std.proofs.Common.{◌≡◌, ◌+◌, ◌-◌, ◌<◌, ◌≤◌, min, refl, ap, sym, ◌∙◌, subst, arith}
+use Rattle.std.proofs.Common.{◌≡◌, ◌<◌, refl, ap, sym, ◌∙◌, subst, arith}
 use Rattle.guest_words.specs.State.{State}
-use Rattle.guest_memory.specs.Kept.{AddressSpace}
 use Rattle.hart_slots.specs.Rejoined.{hart_of}
 use Rattle.guest_atomics.specs.Free.{IsFreeBut}
-use Rattle.guest_memory.specs.Noting.{Notes}
 use Rattle.guest_words.specs.Endings.{is_budget_spent}
 use Rattle.run_history.specs.Legal.{is_ready_at}
-use Rattle.std.specs.Prelude.{true, false, map}
+use Rattle.std.specs.Prelude.{map}
 use Rattle.guest_words.specs.State.{frames_at}
 use Rattle.hart_step.specs.Legs.{IsLeg}
-use Rattle.hart_step.specs.Live.{space_of, Live}
+use Rattle.hart_step.specs.Live.{Live}
 use Rattle.hart_step.specs.declared.engine.Engine.TheInside.{Inside}
 use Rattle.hart_step.proofs.Hurried.{hurried, after_row, Hurried}
 use Rattle.hart_step.proofs.engine.Engine.hurry.Goals as goal
@@ -21,8 +19,18 @@ module _ (c : goal.After-self-1) where
   abbrev before : Live
   before = record {
     state = record {
-      memory = inside.guest.memory.space; low = inside.guest.memory.low; brk = inside.guest.memory.brk; slots = inside.slots; waiting = inside.queue; next_tid = inside.next_tid;
-      records = inside.records.records; steps = inside.steps; ending = inside.ending; points = inside.guest.points; ports = inside.ports; budget = inside.budget;
+      memory = inside.guest.memory.space;
+      low = inside.guest.memory.low;
+      brk = inside.guest.memory.brk;
+      slots = inside.slots;
+      waiting = inside.queue;
+      next_tid = inside.next_tid;
+      records = inside.records.records;
+      steps = inside.steps;
+      ending = inside.ending;
+      points = inside.guest.points;
+      ports = inside.ports;
+      budget = inside.budget;
     };
     spare = inside.guest.memory.spare;
   }
