@@ -2,15 +2,15 @@
 ghost use Rattle.std.specs.Prelude.{◌≡◌, ◌+◌, ◌<◌, ◌≤◌, true, false, length, IfOk, OnErr, OnOk};
 ghost use Rattle.guest_words.specs.Endings.{is_budget_spent};
 ghost use Rattle.guest_memory.specs.Noting.{Notes};
-ghost use Rattle.run_history.specs.After.{next, ran};
-ghost use Rattle.run_history.specs.Legal.{can_run, is_ready_at};
+ghost use Rattle.run_history.specs.After.{next};
+ghost use Rattle.run_history.specs.Legal.{is_ready_at};
 ghost use Rattle.hart_step.specs.Live.{space_of};
 ghost use Rattle.hart_step.specs.Noted.{notes_for};
 ghost use Rattle.hart_step.specs.Sees.{is_ordinary_act, Sees};
-ghost use Rattle.hart_step.specs.Stops.{IsPlainRow, Stops};
+ghost use Rattle.hart_step.specs.Stops.{wants_memory};
 
 use crate::engine::Engine;
-use crate::next_act::{NextAct, Run};
+use crate::next_act::NextAct;
 use guest_words::MemoryWant;
 use std::alloc::Global;
 use undo_log::Log;
@@ -62,21 +62,21 @@ impl Engine {
         unreachable!()
     }
 
-    /// Ordinary acts of a hart in a row, at most so many, as many as can be made without memory
-    /// before a frame closes; the one that closes a frame is the last. What stopped them is
-    /// answered. Where `noted`, the log gets a note of all that is overwritten. Takes no memory.
-    pub fn run(&mut self, hart: u8, most: u32, log: &mut Log, noted: bool) -> Run
+    /// The same for an act that can't want memory.
+    pub(crate) fn advance_free(&mut self, hart: u8, log: &mut Log, noted: bool) -> NextAct
         requires not_yet { ⊥ }
-        requires room { noted ≡ true → most ≤ log.old.spare }
-        ensures within { result.count ≤ most }
-        ensures legal { can_run self.old.state hart result.count ≡ true }
-        ensures after { self.new.state ≡ ran self.old.state hart result.count }
-        ensures row { IsPlainRow noted self.old.state hart result.count }
-        ensures stops { result.count < most
-            → Stops noted self.old.state self.new.state hart result.next }
+        requires ready { is_ready_at self.old.state hart ≡ true }
+        requires left { is_budget_spent self.old.state ≡ false }
+        requires free { wants_memory noted self.old.state hart ≡ false }
+        requires room { noted ≡ true → 1 ≤ log.old.spare }
+        ensures value { Sees self.old.state hart result }
+        ensures after { is_ordinary_act result ≡ true
+            → self.new.state ≡ next self.old.state hart }
+        ensures same { is_ordinary_act result ≡ false
+            → (self.new ≡ self.old) × (log.new ≡ log.old) }
         ensures notes { Notes noted log.old.notes log.new.notes
             (space_of self.old) (space_of self.new) }
-        ensures room { log.old.spare ≤ log.new.spare + result.count }
+        ensures room { log.old.spare ≤ log.new.spare + 1 }
     {
         unreachable!()
     }

@@ -4,12 +4,17 @@
 mod acts;
 mod before;
 mod carry;
+mod changes;
 mod deciding;
 mod did;
 mod engine;
+mod facts;
 mod guest;
 mod guest_serving;
+mod guest_changes;
+mod hurry;
 mod known;
+mod leg;
 mod look;
 mod memory_rows;
 mod next_act;
@@ -21,10 +26,14 @@ mod record_log;
 mod register_rows;
 mod registers;
 mod restore;
+mod running;
 mod serving;
 mod step;
 mod stretches;
+#[cfg(test)]
+mod tests;
 mod text;
+mod wants;
 
 pub use deciding::decide;
 pub use engine::Engine;

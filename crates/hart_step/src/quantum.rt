@@ -1,6 +1,7 @@
 ghost use Rattle.std.specs.Prelude.{◌≡◌, ◌≤◌, ◌<◌, ◌+◌, ◌++◌, [], ◌∷◌, true, false, is_none, IfSome, OnSome};
 ghost use Rattle.guest_words.specs.HartAct.{hart_act};
-ghost use Rattle.hart_step.specs.InARow.{act_notes, after_act, closes, is_next, lone, notes_under, IsRow};
+ghost use Rattle.guest_memory.specs.Noting.{Notes};
+ghost use Rattle.hart_step.specs.InARow.{after_act, closes, is_next, lone, IsRow};
 ghost use Rattle.hart_step.specs.InPlace.{did_of, HasZero};
 ghost use Rattle.hart_step.specs.Table.{IsTable};
 
@@ -47,8 +48,7 @@ pub fn run(
     ensures within { result.count ≤ most }
     ensures row { IsRow points.now frames top.now (lone hart.old memory.old)
         (lone hart.new memory.new) result.count result.closed }
-    ensures notes { log.new.notes ≡ log.old.notes ++ notes_under noted points.now
-        frames result.count (lone hart.old memory.old) }
+    ensures notes { Notes noted log.old.notes log.new.notes memory.old memory.new }
     ensures stops { result.closed ≡ false → result.count < most
         → result.did ≡ did_of (hart_act memory.new.space points.now frames hart.new) }
     ensures spare { log.old.spare ≤ log.new.spare + result.count }
@@ -112,8 +112,7 @@ fn go(
     ensures after { lone hart.new memory.new
         ≡ after_act (hart_act memory.old.space points.now frames hart.old)
         (lone hart.old memory.old) }
-    ensures notes { log.new.notes ≡ log.old.notes ++ act_notes noted
-        (hart_act memory.old.space points.now frames hart.old) memory.old }
+    ensures notes { Notes noted log.old.notes log.new.notes memory.old memory.new }
     ensures table { IsTable memory.new.space points.now table.new }
     ensures zero { HasZero hart.new }
     ensures spare { log.old.spare ≤ log.new.spare + 1 }

@@ -1,0 +1,27 @@
+-- The act of the hart in a slot, alone, and what its reply looks at.
+use Rattle.std.specs.Prelude.{ℕ, length, Option, slice_get}
+use Rattle.std.specs.Option.{option_map}
+use Rattle.guest_words.specs.declared.act.Act.{Act}
+use Rattle.guest_words.specs.declared.call.Facts.{Facts}
+use Rattle.guest_words.specs.declared.call.Request.{Request}
+use Rattle.guest_words.specs.declared.call.Request.TheVariants as request
+use Rattle.guest_words.specs.declared.hart.Slot.{Slot}
+use Rattle.guest_words.specs.CallChanges.{facts_of, mapped_pages}
+use Rattle.guest_words.specs.HartAct.{hart_act}
+use Rattle.guest_words.specs.State.{State}
+
+abbrev pub slot_act : State → Slot → Act
+slot_act s slot = hart_act s.memory s.points (length slot.frames) slot.hart
+
+-- the act of the hart in a slot, before its frames close
+abbrev pub act_at : State → ℕ → Option Act
+act_at s h = option_map (slot_act s) (slice_get s.slots h)
+
+-- only a map looks at how many pages are mapped
+abbrev pub mapped_for : State → Request → ℕ
+mapped_for s (request.Map size prot flags) = mapped_pages s.memory
+mapped_for s _ = 0
+
+-- the facts that a call looks at
+abbrev pub facts_for : State → ℕ → Request → Facts
+facts_for s h call = record (facts_of s h call) { mapped = mapped_for s call }
