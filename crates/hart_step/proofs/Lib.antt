@@ -7,3 +7,5 @@ pub mod RegisterActs
 pub mod Texts
 mod Walks
 pub mod Waiting
+pub mod Engines
+pub mod Replies

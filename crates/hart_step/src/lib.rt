@@ -3,6 +3,7 @@
 
 mod acts;
 mod before;
+mod calls;
 mod carry;
 mod changes;
 mod deciding;
@@ -13,6 +14,7 @@ mod guest;
 mod guest_changes;
 mod known;
 mod look;
+mod mapping;
 mod memory_rows;
 mod next_act;
 mod outcomes;
