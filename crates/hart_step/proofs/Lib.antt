@@ -9,3 +9,4 @@ mod Walks
 pub mod Waiting
 pub mod Engines
 pub mod Replies
+pub mod SlotActs

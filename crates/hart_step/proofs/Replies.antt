@@ -1,11 +1,18 @@
 -- The reply to a call, and what it brings along.
-use Rattle.std.proofs.Common.{◌≡◌, ℕ, refl}
+use Rattle.std.proofs.Common.{◌≡◌, ℕ, ◌%◌, Bool, true, false, not, ◌==◌, ◌||◌, nat_lt, if◌then◌else◌, ◌+◌, pos, ℤ, length, Option, Some, None, refl, slice_get}
 use Rattle.guest_words.specs.declared.call.Request.{Request as Call}
 use Rattle.guest_words.specs.declared.call.Request.TheVariants as request
-use Rattle.guest_words.specs.CallChanges.{facts_of}
-use Rattle.guest_words.specs.Calls.{reply_of}
-use Rattle.guest_words.specs.State.{State}
-use Rattle.hart_step.specs.Acts.{facts_for}
+use Rattle.guest_words.specs.declared.call.Reply.{Reply}
+use Rattle.guest_words.specs.declared.call.Reply.TheVariants as reply
+use Rattle.guest_words.specs.declared.limits.TheConstants.{HEAP_BYTES, MAP_PAGES, PAGE}
+use Rattle.guest_words.specs.declared.linux.TheConstants.{EAGAIN, EBADF, EFAULT, EINVAL, ENOMEM, ENOSYS}
+use Rattle.guest_words.specs.CallChanges.{any_other, facts_of, free_place, free_slot, is_live, is_readable, is_usable, mapped_pages, tid_of, word_at}
+use Rattle.guest_words.specs.Calls.{child_in, cut, is_in_area, is_map_known, makes_hart, mapped_at, mapped_rights, reply_of, reply_of_transfer}
+use Rattle.guest_words.specs.Space.{can_read, can_write, pages_in}
+use Rattle.guest_words.specs.Word.{low_32}
+use Rattle.guest_words.specs.State.{State, frames_at}
+use Rattle.run_history.proofs.Ands.{if_by}
+use Rattle.hart_step.specs.SlotActs.{facts_for, reaches_device}
 
 -- the facts that a call looks at tell its reply
 pub reply_of-for : (s : State) (h : ℕ) (call : Call) → reply_of call (facts_for s h call) ≡ reply_of call (facts_of s h call)
@@ -24,3 +31,68 @@ reply_of-for s h (request.Unmap place length) = refl
 reply_of-for s h request.Yield = refl
 reply_of-for s h request.Tid = refl
 reply_of-for s h request.Unknown = refl
+
+-- a reply comes to no other call than this, and brings along what the state says of it
+abbrev pub Brings : State → ℕ → Call → Reply → Type 0
+Brings s h call (reply.Value v) = Unit {0}
+Brings s h (request.Read fd place size) (reply.Port asked) = Unit {0}
+Brings s h (request.Write fd place size) (reply.Port asked) = Unit {0}
+Brings s h (request.Close fd) (reply.Port asked) = Unit {0}
+Brings s h (request.Exit code) reply.Gone = Unit {0}
+Brings s h call (reply.End code) = Unit {0}
+Brings s h (request.Wait place value timeout) reply.Queue = Unit {0}
+Brings s h call reply.Blocked = Unit {0}
+Brings s h (request.Wake place value) (reply.Rouse most) = Unit {0}
+Brings s h (request.Clone flags stack parent tls child) (reply.Child slot) = free_slot s.slots ≡ Some slot
+Brings s h (request.Break asked) (reply.Break to) = to ≡ (if nat_lt asked s.low || nat_lt (s.low + HEAP_BYTES) asked then s.brk else asked)
+Brings s h (request.Map size prot flags) (reply.Map place count rights) = (count ≡ pages_in size) × (free_place s.memory (pages_in size) ≡ Some place) × (rights ≡ mapped_rights prot)
+Brings s h (request.Unmap from size) (reply.Unmap place count) = (count ≡ pages_in size) × ((not (place % PAGE == 0) || (size == 0) || not (is_in_area place count)) ≡ false)
+Brings s h _ _ = ⊥
+
+module _ (s : State) (h : ℕ) where
+  either : (call : Call) (b : Bool) (x y : Reply) → (b ≡ true → Brings s h call x) → (b ≡ false → Brings s h call y) → Brings s h call (if b then x else y)
+  either call b x y p q = if_by (Brings s h call) b x y p q
+
+  transfer : (call : Call) (size : ℕ) (usable reached : Bool) → Brings s h call (reply.Port (cut size)) → Brings s h call (reply_of_transfer size usable reached)
+  transfer call size usable reached port =
+      either call (not usable) _ _ (λ e. tt) (λ e. either call (size == 0) _ _ (λ e. tt) (λ e. either call (not reached) _ _ (λ e. tt) (λ e. port)))
+
+  pub brings : (call : Call) → Brings s h call (reply_of call (facts_of s h call))
+  unfolding reply_of facts_of
+  brings (request.Read fd place size) = transfer (request.Read fd place size) size _ _ tt
+  brings (request.Write fd place size) = transfer (request.Write fd place size) size _ _ tt
+  brings (request.Close fd) = either (request.Close fd) (is_usable s (request.Close fd)) _ _ (λ e. tt) (λ e. tt)
+  brings (request.Exit code) = either (request.Exit code) (any_other is_live h s.slots) _ _ (λ e. tt) (λ e. tt)
+  brings (request.ExitGroup code) = tt
+  brings (request.Wait place value timeout) =
+      let wait = request.Wait place value timeout in
+      either wait (not (place % 4 == 0)) _ _ (λ e. tt) (λ e. either wait (not (timeout == 0)) _ _ (λ e. tt)
+      (λ e. either wait (not (is_readable s wait)) _ _ (λ e. tt) (λ e. either wait (not (word_at s wait == low_32 value)) _ _ (λ e. tt)
+      (λ e. either wait (nat_lt 0 (frames_at s h)) _ _ (λ e. tt) (λ e. tt)))))
+  brings (request.Wake place value) = either (request.Wake place value) (not (place % 4 == 0)) _ _ (λ e. tt) (λ e. tt)
+  brings (request.Clone flags stack parent tls child) = either (request.Clone flags stack parent tls child) (makes_hart flags) _ _ (λ e. by (free_slot s.slots) refl) (λ e. tt)
+    where
+      by : (o : Option ℕ) → free_slot s.slots ≡ o → Brings s h (request.Clone flags stack parent tls child) (child_in o)
+      by None is = tt
+      by (Some slot) is = is
+  brings (request.Break asked) = refl
+  brings (request.Map size prot flags) =
+      let map = request.Map size prot flags in
+      either map ((size == 0) || not (is_map_known prot flags)) _ _ (λ e. tt)
+      (λ e. either map (nat_lt MAP_PAGES (mapped_pages s.memory + pages_in size)) _ _ (λ e. tt) (λ e. by (free_place s.memory (pages_in size)) refl))
+    where
+      by : (o : Option ℕ) → free_place s.memory (pages_in size) ≡ o → Brings s h (request.Map size prot flags) (mapped_at (pages_in size) prot o)
+      by None is = tt
+      by (Some place) is = (refl, is, refl)
+  brings (request.Unmap place size) =
+      either (request.Unmap place size) (not (place % PAGE == 0) || (size == 0) || not (is_in_area place (pages_in size))) _ _ (λ e. tt) (λ e. (refl, e))
+  brings request.Yield = tt
+  brings request.Tid = tt
+  brings request.Unknown = tt
+
+-- only these reach a device
+pub port_reaches : (s : State) (h : ℕ) (call : Call) (asked : ℕ) → Brings s h call (reply.Port asked) → reaches_device call ≡ true
+port_reaches s h (request.Read fd place size) asked has = refl
+port_reaches s h (request.Write fd place size) asked has = refl
+port_reaches s h (request.Close fd) asked has = refl
+port_reaches s h call asked has = absurd has

@@ -173,8 +173,8 @@ rouse_waits place (suc most) (w ∷ ws) slots own waits =
     let rest : Waits ws (map hart_of slots) = λ k d within. waits (suc k) d (omega (arith, within)) in
     let woke : List Slot = changed (on_hart ready) w.slot slots in
     let left : Waits ws (map hart_of woke) =
-        waits_apart ws w.slot slots woke
-        (λ k other. ap (option_map state_of) (changed-other (on_hart ready) w.slot slots k (λ same. let yes : nat_eq w.slot k ≡ true = grind (arith, nat_tests, same) in cc))) others rest in
+    waits_apart ws w.slot slots woke
+    (λ k other. ap (option_map state_of) (changed-other (on_hart ready) w.slot slots k (λ same. let yes : nat_eq w.slot k ≡ true = grind (arith, nat_tests, same) in cc))) others rest in
     either (waits_at place w) (rouse_waits place most ws woke mine left)
     (All-cons (λ (x : Waiter). WaitsAt x (map hart_of (readied (woken place (suc most) ws) slots))) w (unwoken place (suc most) ws)
     (get_waits (readied (woken place (suc most) ws) slots) w.slot w.place

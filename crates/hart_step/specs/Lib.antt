@@ -10,4 +10,4 @@ pub mod Stops
 pub mod Noted
 pub mod Returns
 pub mod Inside
-pub mod Acts
+pub mod SlotActs

@@ -35,15 +35,7 @@ impl Engine {
     }
 
     /// Puts a new hart into a free slot, made from its parent's, and counts a step.
-    pub(crate) fn add(
-        &mut self,
-        parent: u8,
-        slot: u8,
-        flags: u64,
-        stack: u64,
-        tls: u64,
-        child: u64,
-    )
+    pub(crate) fn add(&mut self, parent: u8, slot: u8, flags: u64, stack: u64, tls: u64, child: u64)
         requires free { free_slot self.old.state.slots ≡ Some slot }
         requires left { self.old.state.steps < self.old.state.budget }
         ensures after { self.new ≡ record self.old {
@@ -51,7 +43,8 @@ impl Engine {
               (child_slot flags stack tls child self.old.state.next_tid));
         } }
     {
-        self.slots.add(parent, slot, flags, stack, tls, child, self.next_tid);
+        self.slots
+            .add(parent, slot, flags, stack, tls, child, self.next_tid);
         self.next_tid += 1;
         self.steps += 1;
     }

@@ -3,7 +3,7 @@ ghost use Rattle.std.specs.Prelude.{◌≡◌, ◌<◌, length, slice_get, Some}
 ghost use Rattle.guest_words.specs.CallChanges.{facts_of, is_readable, is_usable, is_writable, place_for, tid_of, word_at};
 ghost use Rattle.guest_words.specs.Calls.{reply_of};
 ghost use Rattle.guest_words.specs.State.{is_open};
-ghost use Rattle.hart_step.specs.Acts.{act_at, facts_for, mapped_for};
+ghost use Rattle.hart_step.specs.SlotActs.{act_at, facts_for, mapped_for};
 
 use crate::deciding::decide;
 use crate::engine::Engine;

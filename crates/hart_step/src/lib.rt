@@ -8,6 +8,7 @@ mod carry;
 mod changes;
 mod deciding;
 mod did;
+mod doing;
 mod engine;
 mod facts;
 mod guest;

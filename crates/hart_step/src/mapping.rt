@@ -1,15 +1,21 @@
 //! Calls that change which pages are there.
-ghost use Rattle.std.specs.Prelude.{◌≡◌, ◌+◌, ◌*◌, ◌<◌, ◌≤◌, IsFalse, IsTrue, OnErr, OnOk, true};
-ghost use Rattle.guest_words.specs.CallChanges.{gained, lost, maps, unmaps};
+ghost use Rattle.std.specs.Prelude.{◌≡◌, ◌+◌, ◌-◌, ◌*◌, ◌/◌, ◌^◌, ◌<◌, ◌≤◌, max, IfOk, IsFalse, IsTrue, OnErr, OnOk, Some, true};
+ghost use Rattle.guest_words.specs.Act.{act_of_call};
+ghost use Rattle.guest_words.specs.Space.{page_up};
+ghost use Rattle.guest_words.specs.CallChanges.{breaks, gained, lost, maps, unmaps};
 ghost use Rattle.guest_words.specs.State.{with_closed};
 ghost use Rattle.guest_memory.specs.Noting.{Notes};
 ghost use Rattle.guest_pages.specs.Stretch.{IsFree, IsPlace};
-ghost use Rattle.run_history.specs.After.{counted};
+ghost use Rattle.run_history.specs.After.{counted, moved};
 ghost use Rattle.hart_step.specs.Live.{space_of};
+ghost use Rattle.hart_step.specs.Noted.{notes_of_call};
+ghost use Rattle.hart_step.specs.Sees.{named};
+ghost use Rattle.hart_step.specs.Stops.{can_want};
 
 use crate::engine::Engine;
-use guest_words::limits::PAGE;
-use guest_words::{MemoryWant, Rights};
+use crate::next_act::NextAct;
+use guest_words::limits::{HEAP_BYTES, PAGE};
+use guest_words::{MemoryWant, Reply, Request, Rights};
 use std::alloc::Global;
 use undo_log::Log;
 
@@ -110,4 +116,76 @@ impl Engine {
         self.guest.unmap(from, count, log, noted);
         self.slots.touch(from, PAGE * count);
     }
+
+    /// Makes a call that can want memory, where that changes pages or answers a value.
+    pub(crate) fn serve_wanting(
+        &mut self,
+        alloc: Global,
+        hart: u8,
+        request: &Request,
+        log: &mut Log,
+        noted: bool,
+    ) -> Result<NextAct, MemoryWant>
+        requires left { self.old.state.steps < self.old.state.budget }
+        requires wants { can_want true request.now ≡ true }
+        requires room { noted ≡ true
+            → notes_of_call self.old.state request.now ≤ log.old.spare }
+        ensures ordinary { IfOk result (λ is. is ≡ NextAct.Ordinary) }
+        ensures value { OnOk result (named (act_of_call self.old.state hart request.now)
+            ≡ Some NextAct.Ordinary) }
+        ensures after { OnOk result (self.new.state
+            ≡ moved self.old.state (act_of_call self.old.state hart request.now)) }
+        ensures notes { OnOk result (Notes noted log.old.notes log.new.notes
+            (space_of self.old) (space_of self.new)) }
+        ensures room { log.old.spare
+            ≤ log.new.spare + notes_of_call self.old.state request.now }
+        ensures err { OnErr result ((self.new ≡ self.old) × (log.new ≡ log.old)) }
+    {
+        match self.reply(hart, request) {
+            Reply::Value(value) => self.give(hart, value),
+            Reply::Break { to } => self.move_break(alloc, hart, to, log, noted)?,
+            Reply::Map {
+                place,
+                count,
+                rights,
+            } => self.map_pages(alloc, hart, place, count, rights, log, noted)?,
+            Reply::Unmap { place, count } => self.unmap_pages(hart, place, count, log, noted),
+            _ => unreachable!(),
+        }
+        Ok(NextAct::Ordinary)
+    }
+
+    /// The break moves within the heap, and its pages come or go.
+    fn move_break(
+        &mut self,
+        alloc: Global,
+        hart: u8,
+        to: u64,
+        log: &mut Log,
+        noted: bool,
+    ) -> Result<(), MemoryWant>
+        requires not_yet { ⊥ }
+        requires low { self.old.state.low ≤ to }
+        requires high { to ≤ self.old.state.low + HEAP_BYTES }
+        requires left { self.old.state.steps < self.old.state.budget }
+        requires room { noted ≡ true
+            → 1 + max 1 ((page_up self.old.state.brk - page_up to) / PAGE) ≤ log.old.spare }
+        ensures after { OnOk result (self.new.state ≡ counted self.old.state
+            (with_closed (breaks self.old.state hart to) hart)) }
+        ensures notes { OnOk result (Notes noted log.old.notes log.new.notes
+            (space_of self.old) (space_of self.new)) }
+        ensures room { log.old.spare ≤ log.new.spare
+            + (1 + max 1 ((page_up self.old.state.brk - page_up to) / PAGE)) }
+        ensures err { OnErr result ((self.new ≡ self.old) × (log.new ≡ log.old)) }
+    {
+        unreachable!()
+    }
+}
+
+/// The least multiple of a page's size that is no less.
+pub(crate) fn page_up(n: u64) -> u64
+    requires below { n < 2 ^ 63 }
+    ensures value { result ≡ page_up n }
+{
+    n.div_ceil(PAGE) * PAGE
 }

@@ -26,7 +26,9 @@ returns-clause-after c =
     let storing = c.store.ensures.value in
     let live = the_view c.self.inside in
     rw (storing, touching, size, ← c.self.view_is)
-    (ap (λ (n : ℕ). record live { state = record live.state {
-      memory = with_number live.state.memory c.args.address (bytes_in c.args.width) c.args.value;
-      slots = on_each (touched c.args.address n) live.state.slots;
-    } }) (sym long))
+    (ap (λ (n : ℕ). record live {
+      state = record live.state {
+        memory = with_number live.state.memory c.args.address (bytes_in c.args.width) c.args.value;
+        slots = on_each (touched c.args.address n) live.state.slots;
+      };
+    }) (sym long))

@@ -1,14 +1,17 @@
 -- The act of the hart in a slot, alone, and what its reply looks at.
-use Rattle.std.specs.Prelude.{ℕ, length, Option, slice_get}
+use Rattle.std.specs.Prelude.{◌≡◌, ℕ, Bool, true, false, length, Option, Some, None, slice_get}
 use Rattle.std.specs.Option.{option_map}
 use Rattle.guest_words.specs.declared.act.Act.{Act}
+use Rattle.guest_words.specs.declared.act.Write.{Write}
 use Rattle.guest_words.specs.declared.call.Facts.{Facts}
 use Rattle.guest_words.specs.declared.call.Request.{Request}
 use Rattle.guest_words.specs.declared.call.Request.TheVariants as request
 use Rattle.guest_words.specs.declared.hart.Slot.{Slot}
 use Rattle.guest_words.specs.CallChanges.{facts_of, mapped_pages}
 use Rattle.guest_words.specs.HartAct.{hart_act}
+use Rattle.guest_words.specs.Space.{can_write}
 use Rattle.guest_words.specs.State.{State}
+use Rattle.guest_words.specs.Widths.{bytes_in}
 
 abbrev pub slot_act : State → Slot → Act
 slot_act s slot = hart_act s.memory s.points (length slot.frames) slot.hart
@@ -25,3 +28,15 @@ mapped_for s _ = 0
 -- the facts that a call looks at
 abbrev pub facts_for : State → ℕ → Request → Facts
 facts_for s h call = record (facts_of s h call) { mapped = mapped_for s call }
+
+-- bytes that an act stores may be written
+abbrev pub MayWrite : State → Option Write → Type 0
+MayWrite s None = Unit {0}
+MayWrite s (Some write) = can_write s.memory write.address (bytes_in write.width) ≡ true
+
+-- calls that can reach a device
+abbrev pub reaches_device : Request → Bool
+reaches_device (request.Read fd place size) = true
+reaches_device (request.Write fd place size) = true
+reaches_device (request.Close fd) = true
+reaches_device _ = false
