@@ -1,11 +1,13 @@
 -- What the executable state keeps, where a part of it changes.
-use Rattle.std.proofs.Common.{◌≡◌, ◌≢◌, ℕ, ◌+◌, ◌<◌, ◌≤◌, Bool, true, false, ◌||◌, ◌==◌, List, length, map, refl, ap, sym, ◌∙◌, subst, arith}
+use Rattle.std.proofs.Common.{◌≡◌, ◌≢◌, ℕ, ◌+◌, ◌-◌, ◌%◌, ◌<◌, ◌≤◌, Bool, true, false, ◌||◌, ◌==◌, List, length, map, refl, ap, sym, ◌∙◌, subst, arith}
 use Rattle.std.proofs.lemmas.Bool.Decides.{nat_tests}
 use Rattle.guest_words.specs.declared.hart.Slot.{Slot}
 use Rattle.guest_words.specs.declared.hart.Waiter.{Waiter}
 use Rattle.guest_words.specs.declared.record.Record.{Record}
 use Rattle.guest_words.specs.Endings.{is_budget_spent}
 use Rattle.guest_words.specs.State.{State}
+use Rattle.guest_words.specs.Space.{page_up}
+use Rattle.guest_memory.proofs.Ranges.{page_up-within}
 use Rattle.guest_memory.specs.Kept.{AddressSpace}
 use Rattle.hart_slots.specs.Rejoined.{hart_of}
 use Rattle.hart_step.specs.Inside.{IsEngine}
@@ -46,3 +48,13 @@ pub left_steps : (s : State) → s.steps ≤ s.budget → is_budget_spent s ≡ 
 left_steps s within fresh =
     let apart : s.steps ≢ s.budget = λ same. let spent : (s.steps == s.budget) ≡ true = grind (arith, nat_tests, same) in cc in
     omega (arith, within, apart)
+
+-- the heap lies below the area of mapped pages
+pub heap_below : (low brk from : ℕ) → low % 4096 ≡ 0 → low ≤ 0x3f00000000 → brk ≤ low + 67108864 → 0x3f80000000 ≤ from → page_up brk + (low + 67108864 - page_up brk) ≤ from
+heap_below low brk from whole below upto place =
+    let end : (low + 67108864) % 4096 ≡ 0 = omega (arith, whole) in
+    let top : page_up brk ≤ low + 67108864 = page_up-within brk (low + 67108864) upto end in
+    joined (page_up brk) low from top below place
+  where
+    joined : (up low from : ℕ) → up ≤ low + 67108864 → low ≤ 0x3f00000000 → 0x3f80000000 ≤ from → up + (low + 67108864 - up) ≤ from
+    joined up low from top below place = omega (arith, top, below, place)

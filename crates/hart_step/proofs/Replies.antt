@@ -1,5 +1,5 @@
 -- The reply to a call, and what it brings along.
-use Rattle.std.proofs.Common.{◌≡◌, ℕ, ◌%◌, Bool, true, false, not, ◌==◌, ◌||◌, nat_lt, if◌then◌else◌, ◌+◌, pos, ℤ, length, Option, Some, None, refl, slice_get}
+use Rattle.std.proofs.Common.{◌≡◌, ℕ, ◌%◌, Bool, true, false, not, ◌==◌, ◌||◌, nat_lt, nat_le, ◌*◌, arith, if◌then◌else◌, ◌+◌, pos, ℤ, length, Option, Some, None, refl, slice_get}
 use Rattle.guest_words.specs.declared.call.Request.{Request as Call}
 use Rattle.guest_words.specs.declared.call.Request.TheVariants as request
 use Rattle.guest_words.specs.declared.call.Reply.{Reply}
@@ -11,8 +11,16 @@ use Rattle.guest_words.specs.Calls.{child_in, cut, is_in_area, is_map_known, mak
 use Rattle.guest_words.specs.Space.{can_read, can_write, pages_in}
 use Rattle.guest_words.specs.Word.{low_32}
 use Rattle.guest_words.specs.State.{State, frames_at}
-use Rattle.run_history.proofs.Ands.{if_by}
-use Rattle.hart_step.specs.SlotActs.{facts_for, reaches_device}
+use Rattle.run_history.proofs.Ands.{and_left, and_right, if_by}
+use Rattle.hart_step.specs.SlotActs.{facts_for, is_clone, reaches_device}
+use Rattle.std.proofs.lemmas.Bool.{not-false}
+use Rattle.std.proofs.lemmas.Bool.Decides.{nat_tests}
+use Rattle.guest_words.specs.Act.{replied}
+use Rattle.guest_pages.specs.Stretch.{IsPlace}
+use Rattle.run_history.specs.After.{moved}
+use Rattle.hart_step.specs.Sees.{named}
+use Rattle.hart_step.specs.Stops.{can_want}
+use Rattle.hart_step.specs.declared.next_act.NextAct.TheVariants as next_act
 
 -- the facts that a call looks at tell its reply
 pub reply_of-for : (s : State) (h : ℕ) (call : Call) → reply_of call (facts_for s h call) ≡ reply_of call (facts_of s h call)
@@ -96,3 +104,77 @@ port_reaches s h (request.Read fd place size) asked has = refl
 port_reaches s h (request.Write fd place size) asked has = refl
 port_reaches s h (request.Close fd) asked has = refl
 port_reaches s h call asked has = absurd has
+
+pub gone_only : (s : State) (h : ℕ) (call : Call) → Brings s h call reply.Gone → ((code : ℕ) → call ≡ request.Exit code → ⊥) → ⊥
+gone_only s h (request.Exit code) has other = other code refl
+gone_only s h call has other = has
+
+pub queue_only : (s : State) (h : ℕ) (call : Call) → Brings s h call reply.Queue → ((place value timeout : ℕ) → call ≡ request.Wait place value timeout → ⊥) → ⊥
+queue_only s h (request.Wait place value timeout) has other = other place value timeout refl
+queue_only s h call has other = has
+
+pub rouse_only : (s : State) (h : ℕ) (call : Call) (most : ℕ) → Brings s h call (reply.Rouse most) → ((place value : ℕ) → call ≡ request.Wake place value → ⊥) → ⊥
+rouse_only s h (request.Wake place value) most has other = other place value refl
+rouse_only s h call most has other = has
+
+pub child_free : (s : State) (h : ℕ) (call : Call) (slot : ℕ) → Brings s h call (reply.Child slot) → (free_slot s.slots ≡ Some slot) × (is_clone call ≡ true)
+child_free s h (request.Clone flags stack parent tls child) slot has = (has, refl)
+child_free s h call slot has = absurd has
+
+-- pages that go lie in the area of mapped pages
+pub unmap_place : (s : State) (h : ℕ) (call : Call) (place count : ℕ) → Brings s h call (reply.Unmap place count) → IsPlace count place
+unmap_place s h (request.Unmap from size) place count has = by (not (place % PAGE == 0)) (size == 0) refl has.1
+  where
+    by : (a b : Bool) → not (place % PAGE == 0) ≡ a → (a || b || not (is_in_area place count)) ≡ false → IsPlace count place
+    by true b is e = absurd (cc)
+    by false true is e = absurd (cc)
+    by false false is e =
+        let even : (place % PAGE == 0) ≡ true = not-false _ is in
+        let low : nat_le 0x3f80000000 place ≡ true = and_left _ _ (not-false _ e) in
+        let high : nat_le (place + 4096 * count) 0x3fc0000000 ≡ true = and_right _ _ (not-false _ e) in
+        record { aligned = grind (arith, nat_tests, even); low = grind (arith, nat_tests, low); high = grind (arith, nat_tests, high) }
+unmap_place s h call place count has = absurd has
+
+-- a call that is no fault, reaches no device and ends nothing is ordinary
+pub ordinary_reply : (s : State) (h : ℕ) (call : Call) (r : Reply) → Brings s h call r → ((asked : ℕ) → r ≡ reply.Port asked → ⊥) → ((code : ℕ) → r ≡ reply.End code → ⊥) → (r ≡ reply.Blocked → ⊥)
+    → named (replied s h r call) ≡ Some next_act.Ordinary
+ordinary_reply s h call (reply.Value v) has port end blocked = refl
+ordinary_reply s h call (reply.Port asked) has port end blocked = absurd (port asked refl)
+ordinary_reply s h call (reply.End code) has port end blocked = absurd (end code refl)
+ordinary_reply s h call reply.Blocked has port end blocked = absurd (blocked refl)
+ordinary_reply s h (request.Exit code) reply.Gone has port end blocked = refl
+ordinary_reply s h call reply.Gone has port end blocked = absurd has
+ordinary_reply s h (request.Wait place value timeout) reply.Queue has port end blocked = refl
+ordinary_reply s h call reply.Queue has port end blocked = absurd has
+ordinary_reply s h (request.Wake place value) (reply.Rouse most) has port end blocked = refl
+ordinary_reply s h call (reply.Rouse most) has port end blocked = absurd has
+ordinary_reply s h (request.Clone flags stack parent tls child) (reply.Child slot) has port end blocked = refl
+ordinary_reply s h call (reply.Child slot) has port end blocked = absurd has
+ordinary_reply s h call (reply.Break to) has port end blocked = refl
+ordinary_reply s h call (reply.Map place count rights) has port end blocked = refl
+ordinary_reply s h call (reply.Unmap place count) has port end blocked = refl
+
+-- and where it changes no pages, one of these
+pub still_reply : (noted : Bool) (s : State) (h : ℕ) (call : Call) (r : Reply) → Brings s h call r → can_want noted call ≡ false → ((v : ℤ) → r ≡ reply.Value v → ⊥) → (r ≡ reply.Gone → ⊥) → (r ≡ reply.Queue → ⊥)
+    → ((most : ℕ) → r ≡ reply.Rouse most → ⊥) → ((slot : ℕ) → r ≡ reply.Child slot → ⊥) → ((place count : ℕ) → r ≡ reply.Unmap place count → ⊥) → s ≡ moved s (replied s h r call)
+still_reply noted s h call (reply.Value v) has free a b c d e f = absurd (a v refl)
+still_reply noted s h call reply.Gone has free a b c d e f = absurd (b refl)
+still_reply noted s h call reply.Queue has free a b c d e f = absurd (c refl)
+still_reply noted s h call (reply.Rouse most) has free a b c d e f = absurd (d most refl)
+still_reply noted s h call (reply.Child slot) has free a b c d e f = absurd (e slot refl)
+still_reply noted s h call (reply.Unmap place count) has free a b c d e f = absurd (f place count refl)
+still_reply noted s h call (reply.End code) has free a b c d e f = refl
+still_reply noted s h call reply.Blocked has free a b c d e f = refl
+still_reply noted s h (request.Break asked) (reply.Break to) has free a b c d e f = absurd (cc)
+still_reply noted s h call (reply.Break to) has free a b c d e f = absurd has
+still_reply noted s h (request.Map size prot flags) (reply.Map place count rights) has free a b c d e f = absurd (cc)
+still_reply noted s h call (reply.Map place count rights) has free a b c d e f = absurd has
+still_reply noted s h (request.Read fd place size) (reply.Port asked) has free a b c d e f = refl
+still_reply noted s h (request.Write fd place size) (reply.Port asked) has free a b c d e f = refl
+still_reply noted s h (request.Close fd) (reply.Port asked) has free a b c d e f = refl
+still_reply noted s h call (reply.Port asked) has free a b c d e f = absurd has
+
+-- pages go where notes are taken by no call that can't want memory
+pub unmap_unnoted : (noted : Bool) (s : State) (h : ℕ) (call : Call) (place count : ℕ) → Brings s h call (reply.Unmap place count) → can_want noted call ≡ false → noted ≡ false
+unmap_unnoted noted s h (request.Unmap from size) place count has free = free
+unmap_unnoted noted s h call place count has free = absurd has

@@ -40,3 +40,7 @@ reaches_device (request.Read fd place size) = true
 reaches_device (request.Write fd place size) = true
 reaches_device (request.Close fd) = true
 reaches_device _ = false
+
+abbrev pub is_clone : Request → Bool
+is_clone (request.Clone flags stack parent tls child) = true
+is_clone _ = false

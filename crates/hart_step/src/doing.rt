@@ -1,14 +1,14 @@
 //! Ordinary acts that want no memory.
 ghost use Rattle.std.specs.Prelude.{◌≡◌, ℕ, ◌+◌, ◌<◌, ◌≤◌, false, Some, true};
 ghost use Rattle.guest_words.specs.Act.{in_state, replied, written};
-ghost use Rattle.guest_words.specs.CallChanges.{facts_of};
+ghost use Rattle.guest_words.specs.CallChanges.{facts_of, free_slot};
 ghost use Rattle.guest_words.specs.Calls.{reply_of};
 ghost use Rattle.guest_words.specs.declared.call.Reply.TheVariants as reply;
 ghost use Rattle.guest_words.specs.State.{State, with_closed, with_hart};
 ghost use Rattle.guest_memory.specs.Noting.{Notes};
 ghost use Rattle.run_history.specs.After.{counted, moved};
 ghost use Rattle.run_history.specs.Legal.{is_ready_at};
-ghost use Rattle.hart_step.specs.SlotActs.{act_at, reaches_device, MayWrite};
+ghost use Rattle.hart_step.specs.SlotActs.{act_at, is_clone, reaches_device, MayWrite};
 ghost use Rattle.hart_step.specs.Live.{space_of};
 ghost use Rattle.hart_step.specs.Sees.{is_ordinary_act, named};
 ghost use Rattle.hart_step.specs.Stops.{act_wants, can_want};
@@ -121,28 +121,54 @@ impl Engine {
             (space_of self.old) (space_of self.new) }
         ensures room { log.old.spare ≤ log.new.spare + 1 }
     {
-        match (reply, *request) {
-            (Reply::Value(value), _) => self.give(hart, value),
-            (Reply::Gone, Request::Exit { code }) => self.exit(hart, code, log, noted),
-            (Reply::Queue, Request::Wait { place, .. }) => self.wait_at(hart, place),
-            (Reply::Rouse { most }, Request::Wake { place, .. }) => {
+        match reply {
+            Reply::Value(value) => self.give(hart, value),
+            Reply::Gone => {
+                let Request::Exit { code } = *request else {
+                    unreachable!();
+                };
+                self.exit(hart, code, log, noted);
+            }
+            Reply::Queue => {
+                let Request::Wait { place, .. } = *request else {
+                    unreachable!();
+                };
+                self.wait_at(hart, place);
+            }
+            Reply::Rouse { most } => {
+                let Request::Wake { place, .. } = *request else {
+                    unreachable!();
+                };
                 self.wake_at(hart, place, most);
             }
-            (
-                Reply::Child { slot },
-                Request::Clone {
-                    flags,
-                    stack,
-                    parent,
-                    tls,
-                    child,
-                },
-            ) => self.clone(hart, slot, flags, stack, parent, tls, child, log, noted),
-            (Reply::Unmap { place, count }, Request::Unmap { .. }) => {
-                self.unmap_pages(hart, place, count, log, noted);
-            }
+            Reply::Child { slot } => self.bear(hart, request, slot, log, noted),
+            Reply::Unmap { place, count } => self.unmap_pages(hart, place, count, log, noted),
             _ => {}
         }
+    }
+
+    fn bear(&mut self, hart: u8, request: &Request, slot: u8, log: &mut Log, noted: bool)
+        requires left { self.old.state.steps < self.old.state.budget }
+        requires free { free_slot self.old.state.slots ≡ Some slot }
+        requires clones { is_clone request.now ≡ true }
+        requires room { noted ≡ true → 1 ≤ log.old.spare }
+        ensures after { self.new.state ≡ moved self.old.state
+            (replied self.old.state hart (reply.Child slot) request.now) }
+        ensures notes { Notes noted log.old.notes log.new.notes
+            (space_of self.old) (space_of self.new) }
+        ensures room { log.old.spare ≤ log.new.spare + 1 }
+    {
+        let Request::Clone {
+            flags,
+            stack,
+            parent,
+            tls,
+            child,
+        } = *request
+        else {
+            unreachable!();
+        };
+        self.clone(hart, slot, flags, stack, parent, tls, child, log, noted);
     }
 
     /// What a call is, by its reply.

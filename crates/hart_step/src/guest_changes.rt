@@ -1,4 +1,4 @@
-ghost use Rattle.std.specs.Prelude.{◌≡◌, ◌+◌, ◌*◌, ◌%◌, ◌<◌, ◌≤◌, ◌^◌, true, IsFalse, IsTrue, OnErr, OnOk};
+ghost use Rattle.std.specs.Prelude.{◌≡◌, ◌+◌, ◌*◌, ◌%◌, ◌<◌, ◌≤◌, ◌^◌, false, true, IsFalse, IsTrue, OnErr, OnOk};
 ghost use Rattle.guest_words.specs.Space.{can_write, with_number, with_zeros, without};
 ghost use Rattle.guest_words.specs.Widths.{bytes_in};
 ghost use Rattle.guest_pages.specs.Stretch.{IsFree};
@@ -92,6 +92,7 @@ impl Guest {
         } }
         ensures notes { Notes noted log.old.notes log.new.notes self.old.memory self.new.memory }
         ensures room { log.old.spare ≤ log.new.spare + count }
+        ensures plain { noted ≡ false → log.new ≡ log.old }
     {
         if noted {
             self.memory.take_pages(from, count, log);

@@ -1,5 +1,5 @@
 //! Calls that change which pages are there.
-ghost use Rattle.std.specs.Prelude.{◌≡◌, ◌+◌, ◌-◌, ◌*◌, ◌/◌, ◌^◌, ◌<◌, ◌≤◌, max, IfOk, IsFalse, IsTrue, OnErr, OnOk, Some, true};
+ghost use Rattle.std.specs.Prelude.{◌≡◌, ◌+◌, ◌-◌, ◌*◌, ◌/◌, ◌^◌, ◌<◌, ◌≤◌, false, max, IfOk, IsFalse, IsTrue, OnErr, OnOk, Some, true};
 ghost use Rattle.guest_words.specs.Act.{act_of_call};
 ghost use Rattle.guest_words.specs.Space.{page_up};
 ghost use Rattle.guest_words.specs.CallChanges.{breaks, gained, lost, maps, unmaps};
@@ -68,6 +68,7 @@ impl Engine {
         ensures notes { Notes noted log.old.notes log.new.notes
             (space_of self.old) (space_of self.new) }
         ensures room { log.old.spare ≤ log.new.spare + count }
+        ensures plain { noted ≡ false → log.new ≡ log.old }
     {
         self.lose(place, count, log, noted);
         self.give(hart, 0);
@@ -112,6 +113,7 @@ impl Engine {
         ensures notes { Notes noted log.old.notes log.new.notes
             (space_of self.old) (space_of self.new) }
         ensures room { log.old.spare ≤ log.new.spare + count }
+        ensures plain { noted ≡ false → log.new ≡ log.old }
     {
         self.guest.unmap(from, count, log, noted);
         self.slots.touch(from, PAGE * count);

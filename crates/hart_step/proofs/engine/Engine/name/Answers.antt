@@ -3,7 +3,7 @@ use Rattle.guest_words.specs.Act.{replied}
 use Rattle.guest_words.specs.declared.call.Reply.{Reply}
 use Rattle.guest_words.specs.declared.call.Reply.TheVariants as reply
 use Rattle.hart_step.specs.Sees.{named}
-use Rattle.hart_step.proofs.Replies.{brings, port_reaches, Brings}
+use Rattle.hart_step.proofs.Replies.{brings, ordinary_reply, port_reaches, Brings}
 use Rattle.hart_step.proofs.engine.Engine.name.Goals as goal
 
 pub asked_of-requires : goal.asked_of-requires
@@ -22,7 +22,4 @@ returns-in_default c =
     let s = c.args.self.now.state in
     let call = c.args.request.now in
     let has = subst (Brings s c.args.hart call) (sym c.requires.reply) (brings s c.args.hart call) in
-    let a = c.in_default.not-Port in
-    let b = c.in_default.not-End in
-    let d = c.in_default.not-Blocked in
-    ?
+    record { value = ordinary_reply s c.args.hart call c.args.reply has c.in_default.not-Port c.in_default.not-End c.in_default.not-Blocked }
