@@ -1,22 +1,23 @@
 -- The reply to a call, and what it brings along.
-use Rattle.std.proofs.Common.{◌≡◌, ℕ, ◌%◌, Bool, true, false, not, ◌==◌, ◌||◌, nat_lt, nat_le, ◌*◌, arith, if◌then◌else◌, ◌+◌, pos, ℤ, length, Option, Some, None, refl, slice_get}
+use Rattle.std.proofs.Common.{◌≡◌, ℕ, ◌%◌, Bool, true, false, not, ◌==◌, ◌||◌, nat_lt, nat_le, ◌*◌, arith, if◌then◌else◌, ◌+◌, pos, ℤ, length, Option, Some, None, IsTrue, IsFalse, refl, ap, sym, ◌∙◌, subst, slice_get}
 use Rattle.guest_words.specs.declared.call.Request.{Request as Call}
 use Rattle.guest_words.specs.declared.call.Request.TheVariants as request
 use Rattle.guest_words.specs.declared.call.Reply.{Reply}
 use Rattle.guest_words.specs.declared.call.Reply.TheVariants as reply
+use Rattle.guest_words.specs.declared.image.Rights.{Rights}
 use Rattle.guest_words.specs.declared.limits.TheConstants.{HEAP_BYTES, MAP_PAGES, PAGE}
-use Rattle.guest_words.specs.declared.linux.TheConstants.{EAGAIN, EBADF, EFAULT, EINVAL, ENOMEM, ENOSYS}
-use Rattle.guest_words.specs.CallChanges.{any_other, facts_of, free_place, free_slot, is_live, is_readable, is_usable, mapped_pages, tid_of, word_at}
-use Rattle.guest_words.specs.Calls.{child_in, cut, is_in_area, is_map_known, makes_hart, mapped_at, mapped_rights, reply_of, reply_of_transfer}
+use Rattle.guest_words.specs.declared.linux.TheConstants.{PROT_WRITE, EAGAIN, EBADF, EFAULT, EINVAL, ENOMEM, ENOSYS}
+use Rattle.guest_words.specs.CallChanges.{any_other, facts_of, free_place, free_slot, is_live, is_readable, is_usable, mapped_pages, place_for, tid_of, word_at}
+use Rattle.guest_words.specs.Calls.{child_in, cut, has_flag, is_in_area, is_map_known, makes_hart, mapped_at, mapped_rights, reply_of, reply_of_transfer}
 use Rattle.guest_words.specs.Space.{can_read, can_write, pages_in}
 use Rattle.guest_words.specs.Word.{low_32}
 use Rattle.guest_words.specs.State.{State, frames_at}
 use Rattle.run_history.proofs.Ands.{and_left, and_right, if_by}
-use Rattle.hart_step.specs.SlotActs.{facts_for, is_clone, reaches_device}
+use Rattle.hart_step.specs.SlotActs.{facts_for, is_clone, reaches_device, FitsIn, HasRoom}
 use Rattle.std.proofs.lemmas.Bool.{not-false}
 use Rattle.std.proofs.lemmas.Bool.Decides.{nat_tests}
-use Rattle.guest_words.specs.Act.{replied}
-use Rattle.guest_pages.specs.Stretch.{IsPlace}
+use Rattle.guest_words.specs.Act.{act_of_call, replied}
+use Rattle.guest_pages.specs.Stretch.{IsFree, IsPlace}
 use Rattle.run_history.specs.After.{moved}
 use Rattle.hart_step.specs.Sees.{named}
 use Rattle.hart_step.specs.Stops.{can_want}
@@ -178,3 +179,35 @@ still_reply noted s h call (reply.Port asked) has free a b c d e f = absurd has
 pub unmap_unnoted : (noted : Bool) (s : State) (h : ℕ) (call : Call) (place count : ℕ) → Brings s h call (reply.Unmap place count) → can_want noted call ≡ false → noted ≡ false
 unmap_unnoted noted s h (request.Unmap from size) place count has free = free
 unmap_unnoted noted s h call place count has free = absurd has
+
+-- pages that come fit
+pub fits_in : (s : State) (h : ℕ) (call : Call) (r : Reply) → r ≡ reply_of call (facts_of s h call) → HasRoom s call (place_for s call) → FitsIn s r
+fits_in s h call r is room = by call r (subst (Brings s h call) (sym is) (brings s h call)) room
+  where
+    by : (call : Call) (r : Reply) → Brings s h call r → HasRoom s call (place_for s call) → FitsIn s r
+    by (request.Map size prot flags) (reply.Map place count rights) has room =
+        subst (λ (n : ℕ). IsPlace n place × IsFree s.memory place (PAGE * n)) (sym has.0) (subst (HasRoom s (request.Map size prot flags)) has.1 room)
+    by call (reply.Map place count rights) has room = absurd has
+    by call r has room = tt
+
+pub place-facts : (s : State) (h : ℕ) (call : Call) → (facts_for s h call).place ≡ place_for s call
+unfolding facts_of
+place-facts s h call = refl
+
+-- what a call does, by its reply
+pub call_is : (s : State) (h : ℕ) (call : Call) (r known : Reply) → r ≡ reply_of call (facts_of s h call) → r ≡ known → act_of_call s h call ≡ replied s h known call
+unfolding act_of_call
+call_is s h call r known is same = ap (λ (x : Reply). replied s h x call) (sym is ∙ same)
+
+pub brought : (s : State) (h : ℕ) (call : Call) (r known : Reply) → r ≡ reply_of call (facts_of s h call) → r ≡ known → Brings s h call known
+brought s h call r known is same = subst (Brings s h call) (sym is ∙ same) (brings s h call)
+
+-- rights of mapped pages
+pub map_rights : (s : State) (h : ℕ) (call : Call) (place count : ℕ) (rights : Rights) → Brings s h call (reply.Map place count rights) → (IsTrue rights.write → IsTrue rights.read) × IsFalse rights.exec
+map_rights s h (request.Map size prot flags) place count rights has =
+    subst (λ (r : Rights). (IsTrue r.write → IsTrue r.read) × IsFalse r.exec) (sym has.2) (readable (prot == 0) refl, tt)
+  where
+    readable : (b : Bool) → (prot == 0) ≡ b → IsTrue (has_flag prot PROT_WRITE) → IsTrue (not b)
+    readable true is write = ?
+    readable false is write = refl
+map_rights s h call place count rights has = absurd has

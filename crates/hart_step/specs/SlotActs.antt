@@ -1,15 +1,19 @@
 -- The act of the hart in a slot, alone, and what its reply looks at.
-use Rattle.std.specs.Prelude.{◌≡◌, ℕ, Bool, true, false, length, Option, Some, None, slice_get}
+use Rattle.std.specs.Prelude.{◌≡◌, ℕ, ◌+◌, ◌*◌, ◌||◌, nat_lt, if◌then◌else◌, Bool, true, false, length, Option, Some, None, slice_get}
 use Rattle.std.specs.Option.{option_map}
 use Rattle.guest_words.specs.declared.act.Act.{Act}
 use Rattle.guest_words.specs.declared.act.Write.{Write}
 use Rattle.guest_words.specs.declared.call.Facts.{Facts}
 use Rattle.guest_words.specs.declared.call.Request.{Request}
 use Rattle.guest_words.specs.declared.call.Request.TheVariants as request
+use Rattle.guest_words.specs.declared.call.Reply.{Reply}
+use Rattle.guest_words.specs.declared.call.Reply.TheVariants as reply
+use Rattle.guest_words.specs.declared.limits.TheConstants.{HEAP_BYTES, PAGE}
 use Rattle.guest_words.specs.declared.hart.Slot.{Slot}
 use Rattle.guest_words.specs.CallChanges.{facts_of, mapped_pages}
 use Rattle.guest_words.specs.HartAct.{hart_act}
-use Rattle.guest_words.specs.Space.{can_write}
+use Rattle.guest_words.specs.Space.{can_write, pages_in}
+use Rattle.guest_pages.specs.Stretch.{IsFree, IsPlace}
 use Rattle.guest_words.specs.State.{State}
 use Rattle.guest_words.specs.Widths.{bytes_in}
 
@@ -44,3 +48,19 @@ reaches_device _ = false
 abbrev pub is_clone : Request → Bool
 is_clone (request.Clone flags stack parent tls child) = true
 is_clone _ = false
+
+-- pages that a map asks for fit at a place, where none of them is
+abbrev pub HasRoom : State → Request → Option ℕ → Type 0
+HasRoom s (request.Map size prot flags) (Some place) =
+    IsPlace (pages_in size) place × IsFree s.memory place (PAGE * pages_in size)
+HasRoom s _ _ = Unit {0}
+
+-- pages that come lie in the area of mapped pages, and none of them is there
+abbrev pub FitsIn : State → Reply → Type 0
+FitsIn s (reply.Map place count rights) =
+    IsPlace count place × IsFree s.memory place (PAGE * count)
+FitsIn s _ = Unit {0}
+
+-- the break that a call asks for, or the one that is there
+abbrev pub break_for : State → ℕ → ℕ
+break_for s asked = if nat_lt asked s.low || nat_lt (s.low + HEAP_BYTES) asked then s.brk else asked

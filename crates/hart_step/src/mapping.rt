@@ -1,8 +1,10 @@
 //! Calls that change which pages are there.
-ghost use Rattle.std.specs.Prelude.{◌≡◌, ◌+◌, ◌-◌, ◌*◌, ◌/◌, ◌^◌, ◌<◌, ◌≤◌, false, max, IfOk, IsFalse, IsTrue, OnErr, OnOk, Some, true};
-ghost use Rattle.guest_words.specs.Act.{act_of_call};
+ghost use Rattle.std.specs.Prelude.{◌≡◌, ◌+◌, ◌-◌, ◌*◌, ◌/◌, ◌^◌, ◌<◌, ◌≤◌, ◌⊎◌, false, max, IfOk, IsFalse, IsTrue, OnErr, OnOk, Some, true};
+ghost use Rattle.guest_words.specs.Act.{replied};
 ghost use Rattle.guest_words.specs.Space.{page_up};
-ghost use Rattle.guest_words.specs.CallChanges.{breaks, gained, lost, maps, unmaps};
+ghost use Rattle.guest_words.specs.Calls.{reply_of};
+ghost use Rattle.hart_step.specs.SlotActs.{FitsIn};
+ghost use Rattle.guest_words.specs.CallChanges.{breaks, facts_of, gained, lost, maps, unmaps};
 ghost use Rattle.guest_words.specs.State.{with_closed};
 ghost use Rattle.guest_memory.specs.Noting.{Notes};
 ghost use Rattle.guest_pages.specs.Stretch.{IsFree, IsPlace};
@@ -133,28 +135,66 @@ impl Engine {
         requires room { noted ≡ true
             → notes_of_call self.old.state request.now ≤ log.old.spare }
         ensures ordinary { IfOk result (λ is. is ≡ NextAct.Ordinary) }
-        ensures value { OnOk result (named (act_of_call self.old.state hart request.now)
+        ensures value { OnOk result (named (replied self.old.state hart
+            (reply_of request.now (facts_of self.old.state hart request.now)) request.now)
             ≡ Some NextAct.Ordinary) }
-        ensures after { OnOk result (self.new.state
-            ≡ moved self.old.state (act_of_call self.old.state hart request.now)) }
+        ensures after { OnOk result (self.new.state ≡ moved self.old.state
+            (replied self.old.state hart
+            (reply_of request.now (facts_of self.old.state hart request.now)) request.now)) }
         ensures notes { OnOk result (Notes noted log.old.notes log.new.notes
             (space_of self.old) (space_of self.new)) }
         ensures room { log.old.spare
             ≤ log.new.spare + notes_of_call self.old.state request.now }
         ensures err { OnErr result ((self.new ≡ self.old) × (log.new ≡ log.old)) }
     {
-        match self.reply(hart, request) {
-            Reply::Value(value) => self.give(hart, value),
-            Reply::Break { to } => self.move_break(alloc, hart, to, log, noted)?,
+        let reply = self.reply(hart, request);
+        self.give_wanting(alloc, hart, request, reply, log, noted)?;
+        Ok(NextAct::Ordinary)
+    }
+
+    fn give_wanting(
+        &mut self,
+        alloc: Global,
+        hart: u8,
+        request: &Request,
+        reply: Reply,
+        log: &mut Log,
+        noted: bool,
+    ) -> Result<(), MemoryWant>
+        requires left { self.old.state.steps < self.old.state.budget }
+        requires wants { can_want true request.now ≡ true }
+        requires reply { reply
+            ≡ reply_of request.now (facts_of self.old.state hart request.now) }
+        requires fits { FitsIn self.old.state reply }
+        requires room { noted ≡ true
+            → notes_of_call self.old.state request.now ≤ log.old.spare }
+        ensures value { named (replied self.old.state hart reply request.now)
+            ≡ Some NextAct.Ordinary }
+        ensures after { OnOk result (self.new.state
+            ≡ moved self.old.state (replied self.old.state hart reply request.now)) }
+        ensures notes { OnOk result (Notes noted log.old.notes log.new.notes
+            (space_of self.old) (space_of self.new)) }
+        ensures room { log.old.spare
+            ≤ log.new.spare + notes_of_call self.old.state request.now }
+        ensures err { OnErr result ((self.new ≡ self.old) × (log.new ≡ log.old)) }
+    {
+        match reply {
+            Reply::Value(value) => {
+                self.give(hart, value);
+                Ok(())
+            }
+            Reply::Break { to } => self.move_break(alloc, hart, to, log, noted),
             Reply::Map {
                 place,
                 count,
                 rights,
-            } => self.map_pages(alloc, hart, place, count, rights, log, noted)?,
-            Reply::Unmap { place, count } => self.unmap_pages(hart, place, count, log, noted),
+            } => self.map_pages(alloc, hart, place, count, rights, log, noted),
+            Reply::Unmap { place, count } => {
+                self.unmap_pages(hart, place, count, log, noted);
+                Ok(())
+            }
             _ => unreachable!(),
         }
-        Ok(NextAct::Ordinary)
     }
 
     /// The break moves within the heap, and its pages come or go.
@@ -167,8 +207,8 @@ impl Engine {
         noted: bool,
     ) -> Result<(), MemoryWant>
         requires not_yet { ⊥ }
-        requires low { self.old.state.low ≤ to }
-        requires high { to ≤ self.old.state.low + HEAP_BYTES }
+        requires heap { (to ≡ self.old.state.brk)
+            ⊎ ((self.old.state.low ≤ to) × (to ≤ self.old.state.low + HEAP_BYTES)) }
         requires left { self.old.state.steps < self.old.state.budget }
         requires room { noted ≡ true
             → 1 + max 1 ((page_up self.old.state.brk - page_up to) / PAGE) ≤ log.old.spare }

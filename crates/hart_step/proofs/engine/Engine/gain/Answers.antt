@@ -3,6 +3,7 @@ use Rattle.guest_words.specs.declared.limits.TheConstants.{HEAP_BYTES, PAGE}
 use Rattle.guest_words.specs.Harts.{touched}
 use Rattle.guest_words.specs.Space.{page_up}
 use Rattle.guest_memory.proofs.Ranges.{free_after_gain}
+use Rattle.guest_memory.specs.Kept.{IsHeap}
 use Rattle.hart_step.specs.Ground.{Ground}
 use Rattle.hart_step.specs.Live.{IsHeapClear}
 use Rattle.hart_step.proofs.Engines.{heap_below, engine_memory, engine_slots}
@@ -12,7 +13,7 @@ use Rattle.hart_step.proofs.engine.Engine.gain.Goals as goal
 pub invariant_of-self-2 : goal.invariant_of-self-2
 invariant_of-self-2 c =
     let m = c.self.inside.guest.memory in
-    let heap = c.low-low.ensures.heap in
+    let heap = subst (λ (g : Ground). IsHeap g.memory.low g.memory.brk) c.self-inside.view_is c.low-low.ensures.heap in
     let below = heap.below in
     let upto = heap.upto in
     let whole = heap.aligned in
