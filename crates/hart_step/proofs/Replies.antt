@@ -1,5 +1,5 @@
 -- The reply to a call, and what it brings along.
-use Rattle.std.proofs.Common.{◌≡◌, ℕ, ◌%◌, Bool, true, false, not, ◌==◌, ◌||◌, nat_lt, nat_le, ◌*◌, arith, if◌then◌else◌, ◌+◌, pos, ℤ, length, Option, Some, None, IsTrue, IsFalse, refl, ap, sym, ◌∙◌, subst, slice_get}
+use Rattle.std.proofs.Common.{◌≡◌, ℕ, ◌%◌, Bool, true, false, not, ◌==◌, ◌||◌, nat_lt, nat_le, ◌≤◌, ◌⊎◌, ◌-◌, ◌/◌, ◌*◌, max, inl, inr, arith, if◌then◌else◌, ◌+◌, pos, ℤ, length, Option, Some, None, IsTrue, IsFalse, refl, ap, sym, ◌∙◌, subst, slice_get}
 use Rattle.guest_words.specs.declared.call.Request.{Request as Call}
 use Rattle.guest_words.specs.declared.call.Request.TheVariants as request
 use Rattle.guest_words.specs.declared.call.Reply.{Reply}
@@ -9,7 +9,7 @@ use Rattle.guest_words.specs.declared.limits.TheConstants.{HEAP_BYTES, MAP_PAGES
 use Rattle.guest_words.specs.declared.linux.TheConstants.{PROT_WRITE, EAGAIN, EBADF, EFAULT, EINVAL, ENOMEM, ENOSYS}
 use Rattle.guest_words.specs.CallChanges.{any_other, facts_of, free_place, free_slot, is_live, is_readable, is_usable, mapped_pages, place_for, tid_of, word_at}
 use Rattle.guest_words.specs.Calls.{child_in, cut, has_flag, is_in_area, is_map_known, makes_hart, mapped_at, mapped_rights, reply_of, reply_of_transfer}
-use Rattle.guest_words.specs.Space.{can_read, can_write, pages_in}
+use Rattle.guest_words.specs.Space.{can_read, can_write, page_up, pages_in}
 use Rattle.guest_words.specs.Word.{low_32}
 use Rattle.guest_words.specs.State.{State, frames_at}
 use Rattle.run_history.proofs.Ands.{and_left, and_right, if_by}
@@ -19,6 +19,8 @@ use Rattle.std.proofs.lemmas.Bool.Decides.{nat_tests}
 use Rattle.guest_words.specs.Act.{act_of_call, replied}
 use Rattle.guest_pages.specs.Stretch.{IsFree, IsPlace}
 use Rattle.run_history.specs.After.{moved}
+use Rattle.guest_words.specs.declared.call.Facts.{Facts}
+use Rattle.hart_step.specs.Noted.{notes_of_call}
 use Rattle.hart_step.specs.Sees.{named}
 use Rattle.hart_step.specs.Stops.{can_want}
 use Rattle.hart_step.specs.declared.next_act.NextAct.TheVariants as next_act
@@ -205,9 +207,72 @@ brought s h call r known is same = subst (Brings s h call) (sym is ∙ same) (br
 -- rights of mapped pages
 pub map_rights : (s : State) (h : ℕ) (call : Call) (place count : ℕ) (rights : Rights) → Brings s h call (reply.Map place count rights) → (IsTrue rights.write → IsTrue rights.read) × IsFalse rights.exec
 map_rights s h (request.Map size prot flags) place count rights has =
-    subst (λ (r : Rights). (IsTrue r.write → IsTrue r.read) × IsFalse r.exec) (sym has.2) (readable (prot == 0) refl, tt)
+    subst (λ (r : Rights). (IsTrue r.write → IsTrue r.read) × IsFalse r.exec) (sym has.2) (readable (prot == 0) refl, refl)
   where
     readable : (b : Bool) → (prot == 0) ≡ b → IsTrue (has_flag prot PROT_WRITE) → IsTrue (not b)
-    readable true is write = ?
+    readable true is write =
+        let none : prot ≡ 0 = grind (arith, nat_tests, is) in
+        let no : has_flag prot PROT_WRITE ≡ false = ap (λ n. has_flag n PROT_WRITE) none in
+        absurd (cc)
     readable false is write = refl
 map_rights s h call place count rights has = absurd has
+
+-- what calls need of the notes that are made room for
+
+pub break_notes : (s : State) (h : ℕ) (call : Call) (to : ℕ) → Brings s h call (reply.Break to) → 1 + max 1 ((page_up s.brk - page_up to) / 4096) ≤ notes_of_call s call
+break_notes s h (request.Break asked) to has =
+    subst (λ (n : ℕ). 1 + max 1 ((page_up s.brk - page_up n) / 4096) ≤ 1 + max 1 ((page_up s.brk - page_up asked) / 4096)) (sym has)
+    (if_by (λ (n : ℕ). 1 + max 1 ((page_up s.brk - page_up n) / 4096) ≤ 1 + max 1 ((page_up s.brk - page_up asked) / 4096)) (nat_lt asked s.low || nat_lt (s.low + HEAP_BYTES) asked) s.brk asked
+    (λ e. still (page_up s.brk) ((page_up s.brk - page_up asked) / 4096)) (λ e. omega arith))
+  where
+    still : (up other : ℕ) → 1 + max 1 ((up - up) / 4096) ≤ 1 + max 1 other
+    still up other = let none : up - up ≡ 0 = omega arith in subst (λ (n : ℕ). 1 + max 1 (n / 4096) ≤ 1 + max 1 other) (sym none) (omega arith)
+break_notes s h call to has = absurd has
+
+pub break_heap : (s : State) (h : ℕ) (call : Call) (to : ℕ) → Brings s h call (reply.Break to) → (to ≡ s.brk) ⊎ ((s.low ≤ to) × (to ≤ s.low + 67108864))
+break_heap s h (request.Break asked) to has =
+    subst (λ (n : ℕ). (n ≡ s.brk) ⊎ ((s.low ≤ n) × (n ≤ s.low + 67108864))) (sym has)
+    (by (nat_lt asked s.low) (nat_lt (s.low + 67108864) asked) refl refl)
+  where
+    by : (a b : Bool) → nat_lt asked s.low ≡ a → nat_lt (s.low + 67108864) asked ≡ b → ((if a || b then s.brk else asked) ≡ s.brk) ⊎ ((s.low ≤ (if a || b then s.brk else asked)) × ((if a || b then s.brk else asked) ≤ s.low + 67108864))
+    by true b p q = inl refl
+    by false true p q = inl refl
+    by false false p q = inr (grind (arith, nat_tests, p), grind (arith, nat_tests, q))
+break_heap s h call to has = absurd has
+
+pub map_notes : (s : State) (h : ℕ) (call : Call) (place count : ℕ) (rights : Rights) → Brings s h call (reply.Map place count rights) → notes_of_call s call ≡ 1
+map_notes s h (request.Map size prot flags) place count rights has = refl
+map_notes s h call place count rights has = absurd has
+
+pub unmap_notes : (s : State) (h : ℕ) (call : Call) (place count : ℕ) → Brings s h call (reply.Unmap place count) → notes_of_call s call ≡ count
+unmap_notes s h (request.Unmap from size) place count has = sym has.0
+unmap_notes s h call place count has = absurd has
+
+-- a call that can want memory has no other reply
+abbrev pub OnlyPages : Reply → Type 0
+OnlyPages (reply.Value v) = Unit {0}
+OnlyPages (reply.Break to) = Unit {0}
+OnlyPages (reply.Map place count rights) = Unit {0}
+OnlyPages (reply.Unmap place count) = Unit {0}
+OnlyPages _ = ⊥
+
+pub only_pages : (call : Call) (facts : Facts) → can_want true call ≡ true → OnlyPages (reply_of call facts)
+unfolding reply_of
+only_pages (request.Break asked) facts wants = tt
+only_pages (request.Map size prot flags) facts wants =
+    if_by OnlyPages ((size == 0) || not (is_map_known prot flags)) _ _ (λ e. tt)
+    (λ e. if_by OnlyPages (nat_lt MAP_PAGES (facts.mapped + pages_in size)) _ _ (λ e. tt) (λ e. by facts.place))
+  where
+    by : (o : Option ℕ) → OnlyPages (mapped_at (pages_in size) prot o)
+    by None = tt
+    by (Some place) = tt
+only_pages (request.Unmap place size) facts wants = if_by OnlyPages (not (place % PAGE == 0) || (size == 0) || not (is_in_area place (pages_in size))) _ _ (λ e. tt) (λ e. tt)
+only_pages call facts wants = absurd (cc)
+
+pub pages_else : (r : Reply) → OnlyPages r → ((v : ℤ) → r ≡ reply.Value v → ⊥) → ((to : ℕ) → r ≡ reply.Break to → ⊥)
+    → ((place count : ℕ) (rights : Rights) → r ≡ reply.Map place count rights → ⊥) → ((place count : ℕ) → r ≡ reply.Unmap place count → ⊥) → ⊥
+pages_else (reply.Value v) only a b c d = a v refl
+pages_else (reply.Break to) only a b c d = b to refl
+pages_else (reply.Map place count rights) only a b c d = c place count rights refl
+pages_else (reply.Unmap place count) only a b c d = d place count refl
+pages_else r only a b c d = only

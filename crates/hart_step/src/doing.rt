@@ -1,5 +1,5 @@
 //! Ordinary acts that want no memory.
-ghost use Rattle.std.specs.Prelude.{◌≡◌, ℕ, ◌+◌, ◌<◌, ◌≤◌, false, Some, true};
+ghost use Rattle.std.specs.Prelude.{◌≡◌, ℕ, ◌+◌, ◌<◌, ◌≤◌, false, min, Some, true};
 ghost use Rattle.guest_words.specs.Act.{in_state, replied, written};
 ghost use Rattle.guest_words.specs.CallChanges.{facts_of, free_slot};
 ghost use Rattle.guest_words.specs.Calls.{reply_of};
@@ -10,6 +10,7 @@ ghost use Rattle.run_history.specs.After.{counted, moved};
 ghost use Rattle.run_history.specs.Legal.{is_ready_at};
 ghost use Rattle.hart_step.specs.SlotActs.{act_at, is_clone, reaches_device, MayWrite};
 ghost use Rattle.hart_step.specs.Live.{space_of};
+ghost use Rattle.hart_step.specs.Noted.{notes_of_act, notes_of_call};
 ghost use Rattle.hart_step.specs.Sees.{is_ordinary_act, named};
 ghost use Rattle.hart_step.specs.Stops.{act_wants, can_want};
 
@@ -26,7 +27,7 @@ impl Engine {
         requires left { self.old.state.steps < self.old.state.budget }
         requires act { act_at self.old.state hart ≡ Some act.now }
         requires free { act_wants noted act.now ≡ false }
-        requires room { noted ≡ true → 1 ≤ log.old.spare }
+        requires room { noted ≡ true → min 1 (notes_of_act self.old.state act.now) ≤ log.old.spare }
         ensures value { named (in_state self.old.state hart act.now) ≡ Some result }
         ensures after { self.new.state
             ≡ moved self.old.state (in_state self.old.state hart act.now) }
@@ -34,7 +35,8 @@ impl Engine {
             → (self.new ≡ self.old) × (log.new ≡ log.old) }
         ensures notes { Notes noted log.old.notes log.new.notes
             (space_of self.old) (space_of self.new) }
-        ensures room { log.old.spare ≤ log.new.spare + 1 }
+        ensures room { log.old.spare
+            ≤ log.new.spare + min 1 (notes_of_act self.old.state act.now) }
     {
         match *act {
             Act::Next { hart: next, write } => {
@@ -88,7 +90,7 @@ impl Engine {
         requires ready { is_ready_at self.old.state hart ≡ true }
         requires left { self.old.state.steps < self.old.state.budget }
         requires free { can_want noted request.now ≡ false }
-        requires room { noted ≡ true → 1 ≤ log.old.spare }
+        requires room { noted ≡ true → min 1 (notes_of_call self.old.state request.now) ≤ log.old.spare }
         ensures value { named (replied self.old.state hart
             (reply_of request.now (facts_of self.old.state hart request.now)) request.now)
             ≡ Some result }
@@ -98,7 +100,8 @@ impl Engine {
             → (self.new ≡ self.old) × (log.new ≡ log.old) }
         ensures notes { Notes noted log.old.notes log.new.notes
             (space_of self.old) (space_of self.new) }
-        ensures room { log.old.spare ≤ log.new.spare + 1 }
+        ensures room { log.old.spare
+            ≤ log.new.spare + min 1 (notes_of_call self.old.state request.now) }
     {
         let reply = self.reply(hart, request);
         let is = self.name(hart, request, reply);
@@ -114,12 +117,13 @@ impl Engine {
         requires reply { reply
             ≡ reply_of request.now (facts_of self.old.state hart request.now) }
         requires free { can_want noted request.now ≡ false }
-        requires room { noted ≡ true → 1 ≤ log.old.spare }
+        requires room { noted ≡ true → min 1 (notes_of_call self.old.state request.now) ≤ log.old.spare }
         ensures after { self.new.state
             ≡ moved self.old.state (replied self.old.state hart reply request.now) }
         ensures notes { Notes noted log.old.notes log.new.notes
             (space_of self.old) (space_of self.new) }
-        ensures room { log.old.spare ≤ log.new.spare + 1 }
+        ensures room { log.old.spare
+            ≤ log.new.spare + min 1 (notes_of_call self.old.state request.now) }
     {
         match reply {
             Reply::Value(value) => self.give(hart, value),
@@ -151,12 +155,13 @@ impl Engine {
         requires left { self.old.state.steps < self.old.state.budget }
         requires free { free_slot self.old.state.slots ≡ Some slot }
         requires clones { is_clone request.now ≡ true }
-        requires room { noted ≡ true → 1 ≤ log.old.spare }
+        requires room { noted ≡ true → min 1 (notes_of_call self.old.state request.now) ≤ log.old.spare }
         ensures after { self.new.state ≡ moved self.old.state
             (replied self.old.state hart (reply.Child slot) request.now) }
         ensures notes { Notes noted log.old.notes log.new.notes
             (space_of self.old) (space_of self.new) }
-        ensures room { log.old.spare ≤ log.new.spare + 1 }
+        ensures room { log.old.spare
+            ≤ log.new.spare + min 1 (notes_of_call self.old.state request.now) }
     {
         let Request::Clone {
             flags,

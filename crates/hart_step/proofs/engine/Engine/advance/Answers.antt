@@ -1,8 +1,8 @@
-use Rattle.std.proofs.Common.{Some, ap, sym, ◌∙◌}
+use Rattle.std.proofs.Common.{Some, ap, sym, ◌∙◌, arith}
 use Rattle.guest_words.specs.Act.{act_of_call, in_state}
 use Rattle.run_history.specs.After.{moved}
 use Rattle.hart_step.specs.Sees.{named}
-use Rattle.hart_step.proofs.SlotActs.{act_of-at, next-at}
+use Rattle.hart_step.proofs.SlotActs.{act_of-at, next-at, notes-at}
 use Rattle.hart_step.proofs.engine.Engine.advance.Goals as goal
 
 pub returns-in_default-clause-value : goal.returns-in_default-clause-value
@@ -11,3 +11,15 @@ returns-in_default-clause-value c =
 
 pub returns-in_default-clause-after : goal.returns-in_default-clause-after
 returns-in_default-clause-after c = λ ordinary. c.make.ensures.after ∙ next-at c.args.self.now.state c.args.hart c.act-act.result c.act-act.ensures.value
+
+pub make-requires-clause-room : goal.make-requires-clause-room
+make-requires-clause-room c = λ noted.
+    let same = notes-at c.args.self.now.state c.args.hart c.act-act.result c.act-act.ensures.value in
+    let room = c.requires.room noted in
+    omega (arith, same, room)
+
+pub returns-in_default-clause-room : goal.returns-in_default-clause-room
+returns-in_default-clause-room c =
+    let same = notes-at c.args.self.now.state c.args.hart c.act-act.result c.act-act.ensures.value in
+    let room = c.make.ensures.room in
+    omega (arith, same, room)

@@ -13,7 +13,7 @@ use Rattle.hart_step.proofs.engine.Engine.gain.Goals as goal
 pub invariant_of-self-2 : goal.invariant_of-self-2
 invariant_of-self-2 c =
     let m = c.self.inside.guest.memory in
-    let heap = subst (λ (g : Ground). IsHeap g.memory.low g.memory.brk) c.self-inside.view_is c.low-low.ensures.heap in
+    let heap : IsHeap m.low m.brk = rw (← c.self-inside.view_is) c.low-low.ensures.heap in
     let below = heap.below in
     let upto = heap.upto in
     let whole = heap.aligned in
