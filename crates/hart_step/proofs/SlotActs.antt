@@ -1,6 +1,6 @@
 -- The act of the hart in a slot, and what it is in the state.
-use Rattle.std.proofs.Common.{◌≡◌, ◌≢◌, ℕ, ◌<◌, Bool, true, false, length, Option, Some, None, option_map, refl, ap, sym, ◌∙◌, subst, slice_get}
-use Rattle.std.specs.Option.{is_none}
+use Rattle.std.proofs.Common.{◌≡◌, ◌≢◌, ℕ, ◌<◌, Bool, true, false, length, Option, Some, None, Result, Ok, Err, option_map, refl, ap, sym, ◌∙◌, subst, slice_get}
+use Rattle.std.specs.Prelude.{IfOk}
 use Rattle.guest_words.specs.declared.act.Act.{Act}
 use Rattle.guest_words.specs.declared.act.Act.TheVariants as act
 use Rattle.guest_words.specs.declared.act.Write.{Write}
@@ -61,3 +61,8 @@ may-at s h hart write is = by (slice_get s.slots h) is
 pub next-at : (s : State) (h : ℕ) (a : Act) → act_at s h ≡ Some a → moved s (in_state s h a) ≡ next s h
 unfolding next
 next-at s h a is = ap (moved s) (sym (act_of-at s h a is))
+
+-- what is said of a value that a call gave
+pub if_ok : {A E : Type 0} (r : Result A E) (P Q : A → Type 0) → ((a : A) → P a → Q a) → IfOk r P → IfOk r Q
+if_ok (Ok a) P Q leads p = leads a p
+if_ok (Err e) P Q leads p = p

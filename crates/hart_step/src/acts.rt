@@ -1,12 +1,15 @@
 //! Acts of a hart.
-ghost use Rattle.std.specs.Prelude.{◌≡◌, ◌+◌, ◌<◌, ◌≤◌, true, false, length, IfOk, OnErr, OnOk};
+ghost use Rattle.std.specs.Prelude.{◌≡◌, ◌+◌, ◌<◌, ◌≤◌, true, false, length, Some, IfOk, OnErr, OnOk};
+ghost use Rattle.guest_words.specs.Act.{replied};
+ghost use Rattle.guest_words.specs.CallChanges.{facts_of};
+ghost use Rattle.guest_words.specs.Calls.{reply_of};
 ghost use Rattle.guest_words.specs.Endings.{is_budget_spent};
 ghost use Rattle.guest_memory.specs.Noting.{Notes};
-ghost use Rattle.run_history.specs.After.{next};
+ghost use Rattle.run_history.specs.After.{moved, next};
 ghost use Rattle.run_history.specs.Legal.{is_ready_at};
 ghost use Rattle.hart_step.specs.Live.{space_of};
 ghost use Rattle.hart_step.specs.Noted.{notes_for, notes_of_call};
-ghost use Rattle.hart_step.specs.Sees.{is_ordinary_act, Sees};
+ghost use Rattle.hart_step.specs.Sees.{is_ordinary_act, named, Sees};
 ghost use Rattle.hart_step.specs.Stops.{can_want, wants_memory};
 
 use crate::engine::Engine;
@@ -72,9 +75,7 @@ impl Engine {
         let _left = self.steps < self.budget;
         let act = self.act(hart);
         match act {
-            Act::Call(request) if can_want(noted, &request) => {
-                self.serve_wanting(alloc, hart, &request, log, noted)
-            }
+            Act::Call(request) => self.serve_any(alloc, hart, &request, log, noted),
             _ => Ok(self.make(hart, &act, log, noted)),
         }
     }
@@ -97,6 +98,41 @@ impl Engine {
         let _left = self.steps < self.budget;
         let act = self.act(hart);
         self.make(hart, &act, log, noted)
+    }
+
+    // A call of a ready hart.
+    fn serve_any(
+        &mut self,
+        alloc: Global,
+        hart: u8,
+        request: &Request,
+        log: &mut Log,
+        noted: bool,
+    ) -> Result<NextAct, MemoryWant>
+        requires ready { is_ready_at self.old.state hart ≡ true }
+        requires left { self.old.state.steps < self.old.state.budget }
+        requires room { noted ≡ true
+            → notes_of_call self.old.state request.now ≤ log.old.spare }
+        ensures value { IfOk result (λ is. named (replied self.old.state hart
+            (reply_of request.now (facts_of self.old.state hart request.now)) request.now)
+            ≡ Some is) }
+        ensures after { OnOk result (self.new.state ≡ moved self.old.state
+            (replied self.old.state hart
+            (reply_of request.now (facts_of self.old.state hart request.now)) request.now)) }
+        ensures same { IfOk result (λ is. is_ordinary_act is ≡ false
+            → (self.new ≡ self.old) × (log.new ≡ log.old)) }
+        ensures notes { OnOk result (Notes noted log.old.notes log.new.notes
+            (space_of self.old) (space_of self.new)) }
+        ensures room { log.old.spare
+            ≤ log.new.spare + notes_of_call self.old.state request.now }
+        ensures err { OnErr result ((self.new ≡ self.old) × (log.new ≡ log.old)) }
+    {
+        if can_want(noted, request) {
+            self.serve_wanting(alloc, hart, request, log, noted)?;
+            Ok(NextAct::Ordinary)
+        } else {
+            Ok(self.serve(hart, request, log, noted))
+        }
     }
 
     // How many notes a call can make.

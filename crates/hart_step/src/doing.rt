@@ -86,7 +86,14 @@ impl Engine {
         }
     }
 
-    fn serve(&mut self, hart: u8, request: &Request, log: &mut Log, noted: bool) -> NextAct
+    /// The same of a call.
+    pub(crate) fn serve(
+        &mut self,
+        hart: u8,
+        request: &Request,
+        log: &mut Log,
+        noted: bool,
+    ) -> NextAct
         requires ready { is_ready_at self.old.state hart ≡ true }
         requires left { self.old.state.steps < self.old.state.budget }
         requires free { can_want noted request.now ≡ false }

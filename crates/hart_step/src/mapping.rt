@@ -1,5 +1,5 @@
 //! Calls that change which pages are there.
-ghost use Rattle.std.specs.Prelude.{◌≡◌, ◌+◌, ◌-◌, ◌*◌, ◌/◌, ◌^◌, ◌<◌, ◌≤◌, ◌⊎◌, false, max, IfOk, IsFalse, IsTrue, OnErr, OnOk, Some, true};
+ghost use Rattle.std.specs.Prelude.{◌≡◌, ◌+◌, ◌-◌, ◌*◌, ◌/◌, ◌^◌, ◌<◌, ◌≤◌, ◌⊎◌, false, max, IsFalse, IsTrue, OnErr, OnOk, Some, true};
 ghost use Rattle.guest_words.specs.Act.{replied};
 ghost use Rattle.guest_words.specs.Space.{page_up};
 ghost use Rattle.guest_words.specs.Calls.{reply_of};
@@ -129,15 +129,14 @@ impl Engine {
         request: &Request,
         log: &mut Log,
         noted: bool,
-    ) -> Result<NextAct, MemoryWant>
+    ) -> Result<(), MemoryWant>
         requires left { self.old.state.steps < self.old.state.budget }
         requires wants { can_want true request.now ≡ true }
         requires room { noted ≡ true
             → notes_of_call self.old.state request.now ≤ log.old.spare }
-        ensures ordinary { IfOk result (λ is. is ≡ NextAct.Ordinary) }
-        ensures value { OnOk result (named (replied self.old.state hart
+        ensures value { named (replied self.old.state hart
             (reply_of request.now (facts_of self.old.state hart request.now)) request.now)
-            ≡ Some NextAct.Ordinary) }
+            ≡ Some NextAct.Ordinary }
         ensures after { OnOk result (self.new.state ≡ moved self.old.state
             (replied self.old.state hart
             (reply_of request.now (facts_of self.old.state hart request.now)) request.now)) }
@@ -148,8 +147,7 @@ impl Engine {
         ensures err { OnErr result ((self.new ≡ self.old) × (log.new ≡ log.old)) }
     {
         let reply = self.reply(hart, request);
-        self.give_wanting(alloc, hart, request, reply, log, noted)?;
-        Ok(NextAct::Ordinary)
+        self.give_wanting(alloc, hart, request, reply, log, noted)
     }
 
     fn give_wanting(
