@@ -229,16 +229,16 @@ break_notes s h (request.Break asked) to has =
     still up other = let none : up - up ≡ 0 = omega arith in subst (λ (n : ℕ). 1 + max 1 (n / 4096) ≤ 1 + max 1 other) (sym none) (omega arith)
 break_notes s h call to has = absurd has
 
-pub break_heap : (s : State) (h : ℕ) (call : Call) (to : ℕ) → Brings s h call (reply.Break to) → (to ≡ s.brk) ⊎ ((s.low ≤ to) × (to ≤ s.low + 67108864))
-break_heap s h (request.Break asked) to has =
-    subst (λ (n : ℕ). (n ≡ s.brk) ⊎ ((s.low ≤ n) × (n ≤ s.low + 67108864))) (sym has)
+pub break_heap : (s : State) (h : ℕ) (call : Call) (to : ℕ) → Brings s h call (reply.Break to) → s.low ≤ s.brk → s.brk ≤ s.low + 67108864 → (s.low ≤ to) × (to ≤ s.low + 67108864)
+break_heap s h (request.Break asked) to has from upto =
+    subst (λ (n : ℕ). (s.low ≤ n) × (n ≤ s.low + 67108864)) (sym has)
     (by (nat_lt asked s.low) (nat_lt (s.low + 67108864) asked) refl refl)
   where
-    by : (a b : Bool) → nat_lt asked s.low ≡ a → nat_lt (s.low + 67108864) asked ≡ b → ((if a || b then s.brk else asked) ≡ s.brk) ⊎ ((s.low ≤ (if a || b then s.brk else asked)) × ((if a || b then s.brk else asked) ≤ s.low + 67108864))
-    by true b p q = inl refl
-    by false true p q = inl refl
-    by false false p q = inr (grind (arith, nat_tests, p), grind (arith, nat_tests, q))
-break_heap s h call to has = absurd has
+    by : (a b : Bool) → nat_lt asked s.low ≡ a → nat_lt (s.low + 67108864) asked ≡ b → (s.low ≤ (if a || b then s.brk else asked)) × ((if a || b then s.brk else asked) ≤ s.low + 67108864)
+    by true b p q = (from, upto)
+    by false true p q = (from, upto)
+    by false false p q = (grind (arith, nat_tests, p), grind (arith, nat_tests, q))
+break_heap s h call to has from upto = absurd has
 
 pub map_notes : (s : State) (h : ℕ) (call : Call) (place count : ℕ) (rights : Rights) → Brings s h call (reply.Map place count rights) → notes_of_call s call ≡ 1
 map_notes s h (request.Map size prot flags) place count rights has = refl

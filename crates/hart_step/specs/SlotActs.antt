@@ -1,5 +1,5 @@
 -- The act of the hart in a slot, alone, and what its reply looks at.
-use Rattle.std.specs.Prelude.{◌≡◌, ℕ, ◌+◌, ◌*◌, ◌||◌, nat_lt, if◌then◌else◌, Bool, true, false, length, Option, Some, None, slice_get}
+use Rattle.std.specs.Prelude.{◌≡◌, ℕ, ◌+◌, ◌-◌, ◌*◌, Bool, true, false, length, Option, Some, None, slice_get}
 use Rattle.std.specs.Option.{option_map}
 use Rattle.guest_words.specs.declared.act.Act.{Act}
 use Rattle.guest_words.specs.declared.act.Write.{Write}
@@ -8,11 +8,11 @@ use Rattle.guest_words.specs.declared.call.Request.{Request}
 use Rattle.guest_words.specs.declared.call.Request.TheVariants as request
 use Rattle.guest_words.specs.declared.call.Reply.{Reply}
 use Rattle.guest_words.specs.declared.call.Reply.TheVariants as reply
-use Rattle.guest_words.specs.declared.limits.TheConstants.{HEAP_BYTES, PAGE}
+use Rattle.guest_words.specs.declared.limits.TheConstants.{PAGE}
 use Rattle.guest_words.specs.declared.hart.Slot.{Slot}
-use Rattle.guest_words.specs.CallChanges.{facts_of, mapped_pages}
+use Rattle.guest_words.specs.CallChanges.{facts_of, heap_rights, mapped_pages}
 use Rattle.guest_words.specs.HartAct.{hart_act}
-use Rattle.guest_words.specs.Space.{can_write, pages_in}
+use Rattle.guest_words.specs.Space.{Space, can_write, pages_in, with_zeros, without}
 use Rattle.guest_pages.specs.Stretch.{IsFree, IsPlace}
 use Rattle.guest_words.specs.State.{State}
 use Rattle.guest_words.specs.Widths.{bytes_in}
@@ -61,6 +61,6 @@ FitsIn s (reply.Map place count rights) =
     IsPlace count place × IsFree s.memory place (PAGE * count)
 FitsIn s _ = Unit {0}
 
--- the break that a call asks for, or the one that is there
-abbrev pub break_for : State → ℕ → ℕ
-break_for s asked = if nat_lt asked s.low || nat_lt (s.low + HEAP_BYTES) asked then s.brk else asked
+-- memory whose heap ended at an address of a page, and ends at another
+abbrev pub fitted : Space → ℕ → ℕ → Space
+fitted m old new = without (with_zeros m old (new - old) heap_rights) new (old - new)

@@ -1,10 +1,10 @@
 //! Calls that change which pages are there.
-ghost use Rattle.std.specs.Prelude.{◌≡◌, ◌+◌, ◌-◌, ◌*◌, ◌/◌, ◌^◌, ◌<◌, ◌≤◌, ◌⊎◌, false, max, IsFalse, IsTrue, OnErr, OnOk, Some, true};
+ghost use Rattle.std.specs.Prelude.{◌≡◌, ◌+◌, ◌-◌, ◌*◌, ◌/◌, ◌^◌, ◌<◌, ◌≤◌, false, max, IsFalse, IsTrue, OnErr, OnOk, Some, true};
 ghost use Rattle.guest_words.specs.Act.{replied};
 ghost use Rattle.guest_words.specs.Space.{page_up};
 ghost use Rattle.guest_words.specs.Calls.{reply_of};
 ghost use Rattle.hart_step.specs.SlotActs.{FitsIn};
-ghost use Rattle.guest_words.specs.CallChanges.{breaks, facts_of, gained, lost, maps, unmaps};
+ghost use Rattle.guest_words.specs.CallChanges.{breaks, facts_of, gained, lost, maps, unmaps, with_break};
 ghost use Rattle.guest_words.specs.State.{with_closed};
 ghost use Rattle.guest_memory.specs.Noting.{Notes};
 ghost use Rattle.guest_pages.specs.Stretch.{IsFree, IsPlace};
@@ -176,6 +176,8 @@ impl Engine {
             ≤ log.new.spare + notes_of_call self.old.state request.now }
         ensures err { OnErr result ((self.new ≡ self.old) × (log.new ≡ log.old)) }
     {
+        // The break lies in the heap.
+        let _low = self.guest.memory.low();
         match reply {
             Reply::Value(value) => {
                 self.give(hart, value);
@@ -204,9 +206,8 @@ impl Engine {
         log: &mut Log,
         noted: bool,
     ) -> Result<(), MemoryWant>
-        requires not_yet { ⊥ }
-        requires heap { (to ≡ self.old.state.brk)
-            ⊎ ((self.old.state.low ≤ to) × (to ≤ self.old.state.low + HEAP_BYTES)) }
+        requires low { self.old.state.low ≤ to }
+        requires high { to ≤ self.old.state.low + HEAP_BYTES }
         requires left { self.old.state.steps < self.old.state.budget }
         requires room { noted ≡ true
             → 1 + max 1 ((page_up self.old.state.brk - page_up to) / PAGE) ≤ log.old.spare }
@@ -218,7 +219,40 @@ impl Engine {
             + (1 + max 1 ((page_up self.old.state.brk - page_up to) / PAGE)) }
         ensures err { OnErr result ((self.new ≡ self.old) × (log.new ≡ log.old)) }
     {
-        unreachable!()
+        let _low = self.guest.memory.low();
+        self.set_break(alloc, to, log, noted)?;
+        self.give(hart, to as i64);
+        Ok(())
+    }
+
+    fn set_break(
+        &mut self,
+        alloc: Global,
+        to: u64,
+        log: &mut Log,
+        noted: bool,
+    ) -> Result<(), MemoryWant>
+        requires low { self.old.state.low ≤ to }
+        requires high { to ≤ self.old.state.low + HEAP_BYTES }
+        requires room { noted ≡ true
+            → 1 + max 1 ((page_up self.old.state.brk - page_up to) / PAGE) ≤ log.old.spare }
+        ensures after { OnOk result (self.new ≡ record self.old {
+          state = with_break self.old.state to;
+          spare = self.new.spare;
+        }) }
+        ensures notes { OnOk result (Notes noted log.old.notes log.new.notes
+            (space_of self.old) (space_of self.new)) }
+        ensures room { log.old.spare ≤ log.new.spare
+            + (1 + max 1 ((page_up self.old.state.brk - page_up to) / PAGE)) }
+        ensures err { OnErr result ((self.new ≡ self.old) × (log.new ≡ log.old)) }
+    {
+        let _low = self.guest.memory.low();
+        let old = page_up(self.guest.memory.brk());
+        let new = page_up(to);
+        self.guest.move_brk(alloc, to, log, noted)?;
+        self.slots.touch(old, new.saturating_sub(old));
+        self.slots.touch(new, old.saturating_sub(new));
+        Ok(())
     }
 }
 

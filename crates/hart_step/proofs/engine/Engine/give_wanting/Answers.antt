@@ -1,5 +1,7 @@
 use Rattle.std.proofs.Common.{subst, sym, arith}
 use Rattle.guest_words.specs.CallChanges.{facts_of}
+use Rattle.guest_memory.specs.Kept.{IsHeap}
+use Rattle.hart_step.specs.Live.{Live}
 use Rattle.hart_step.specs.SlotActs.{FitsIn}
 use Rattle.hart_step.proofs.Replies.{break_heap, break_notes, brought, map_notes, map_rights, only_pages, pages_else, unmap_notes, unmap_place, OnlyPages}
 use Rattle.hart_step.proofs.engine.Engine.give_wanting.Goals as goal
@@ -31,12 +33,23 @@ unmap_pages-requires-clause-place c =
     let has = brought s c.args.hart call c.args.reply _ c.requires.reply c.in-Unmap.is in
     unmap_place s c.args.hart call c.in-Unmap.place c.in-Unmap.count has
 
-pub move_break-requires-clause-heap : goal.move_break-requires-clause-heap
-move_break-requires-clause-heap c =
+pub move_break-requires-clause-low : goal.move_break-requires-clause-low
+move_break-requires-clause-low c =
     let s = c.args.self.now.state in
     let call = c.args.request.now in
     let has = brought s c.args.hart call c.args.reply _ c.requires.reply c.in-Break.is in
-    break_heap s c.args.hart call c.in-Break.to has
+    let inner : IsHeap c.self.inside.guest.memory.low c.self.inside.guest.memory.brk = rw (← c.self-inside.view_is) c.low-low.ensures.heap in
+    let heap = subst (λ (v : Live). IsHeap v.state.low v.state.brk) c.self.view_is inner in
+    (break_heap s c.args.hart call c.in-Break.to has heap.from heap.upto).0
+
+pub move_break-requires-clause-high : goal.move_break-requires-clause-high
+move_break-requires-clause-high c =
+    let s = c.args.self.now.state in
+    let call = c.args.request.now in
+    let has = brought s c.args.hart call c.args.reply _ c.requires.reply c.in-Break.is in
+    let inner : IsHeap c.self.inside.guest.memory.low c.self.inside.guest.memory.brk = rw (← c.self-inside.view_is) c.low-low.ensures.heap in
+    let heap = subst (λ (v : Live). IsHeap v.state.low v.state.brk) c.self.view_is inner in
+    (break_heap s c.args.hart call c.in-Break.to has heap.from heap.upto).1
 
 pub move_break-requires-clause-room : goal.move_break-requires-clause-room
 move_break-requires-clause-room c = λ noted.
