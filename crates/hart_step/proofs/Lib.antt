@@ -16,3 +16,6 @@ pub mod Rows
 pub mod Texts
 mod Walks
 pub mod Waiting
+pub mod Engines
+pub mod Replies
+pub mod SlotActs

@@ -1,7 +1,8 @@
 -- The harts of the waiting list wait, whatever other harts do.
-use Rattle.std.proofs.Common.{◌≡◌, ◌≢◌, ℕ, zero, suc, ◌+◌, ◌<◌, Bool, true, false, if◌then◌else◌, List, [], ◌∷◌, ◌++◌, length, get_or, map, nat_eq, Option, Some, None, option_map, inl, inr, ◌⊎◌, refl, ap, sym, ◌∙◌, subst, slice_get, arith}
-use Rattle.std.specs.List.{All, AllByRecursion, IsDistinct, position_from}
+use Rattle.std.proofs.Common.{◌≡◌, ◌≢◌, ℕ, zero, suc, ◌+◌, ◌<◌, Bool, true, false, if◌then◌else◌, List, [], ◌∷◌, ◌++◌, length, get_or, set, map, take, ◌||◌, nat_eq, Option, Some, None, option_map, inl, inr, ◌⊎◌, refl, ap, sym, ◌∙◌, subst, slice_get, arith}
+use Rattle.std.specs.List.{All, AllByRecursion, IsDistinct, filter, position_from}
 use Rattle.std.proofs.lemmas.Bool.{eqb-true}
+use Rattle.std.proofs.lemmas.Bool.Decides.{nat_tests}
 use Rattle.std.proofs.lemmas.List.Elements.{All-cons, All-append}
 use Rattle.std.proofs.lemmas.Map.Keys.{IsDistinct-head, IsDistinct-tail}
 use Rattle.std.proofs.lemmas.Option.{slice_get-map}
@@ -10,11 +11,11 @@ use Rattle.guest_words.specs.declared.hart.HartState.{HartState}
 use Rattle.guest_words.specs.declared.hart.HartState.TheVariants.{Ready, Waiting, Gone, Empty}
 use Rattle.guest_words.specs.declared.hart.Slot.{Slot}
 use Rattle.guest_words.specs.declared.hart.Waiter.{Waiter}
-use Rattle.guest_words.specs.CallChanges.{free_slot, readied, ready, unwoken, waits_at, with_child, woken}
+use Rattle.guest_words.specs.CallChanges.{asleep, free_slot, readied, ready, unwoken, waits_at, with_child, woken}
 use Rattle.guest_words.specs.Harts.{is_free, is_ready}
 use Rattle.guest_words.specs.State.{changed, on_each, on_hart}
 use Rattle.run_history.specs.Legal.{is_ready_slot}
-use Rattle.run_history.proofs.Ands.{same_or}
+use Rattle.run_history.proofs.Ands.{if_by, same_or}
 use Rattle.run_history.proofs.Slots.{changed-get, changed-other}
 use Rattle.futex_table.specs.Slots.{has_slot, slots_of, HasOwnSlots}
 use Rattle.hart_slots.specs.Rejoined.{hart_of}
@@ -86,17 +87,19 @@ stays_ready f h slots can =
 
 -- a new hart in a slot that was free
 
-free_at : (slots : List Slot) (k slot : ℕ) → position_from (λ (s : Slot). is_free s.hart.state) k slots ≡ Some slot
-    → (j : ℕ) × (slot ≡ k + j) × ((o : HartState) → state_at slots j ≡ Some o → is_free o ≡ true)
+abbrev FreeFrom : List Slot → ℕ → ℕ → Type 0
+FreeFrom slots k slot = (j : ℕ) × (slot ≡ k + j) × ((o : HartState) → state_at slots j ≡ Some o → is_free o ≡ true)
+
+free_at : (slots : List Slot) (k slot : ℕ) → position_from (λ (s : Slot). is_free s.hart.state) k slots ≡ Some slot → FreeFrom slots k slot
 free_at [] k slot is = absurd (cc)
-free_at (x ∷ xs) k slot is = by (is_free x.hart.state) refl is
+free_at (x ∷ xs) k slot is = by (is_free x.hart.state) refl is (free_at xs (k + 1) slot)
   where
     by : (b : Bool) → is_free x.hart.state ≡ b → (if b then Some k else position_from (λ (s : Slot). is_free s.hart.state) (k + 1) xs) ≡ Some slot
-        → (j : ℕ) × (slot ≡ k + j) × ((o : HartState) → state_at (x ∷ xs) j ≡ Some o → is_free o ≡ true)
-    by true free at = (0, cc, λ o e. ap is_free (cc) ∙ free)
-    by false free at = let rest = free_at xs (k + 1) slot at in let same = rest.1 in (suc rest.0, omega (arith, same), rest.2)
+        → (position_from (λ (s : Slot). is_free s.hart.state) (k + 1) xs ≡ Some slot → FreeFrom xs (k + 1) slot) → FreeFrom (x ∷ xs) k slot
+    by true free at rest = let same : k ≡ slot = cc in (0, omega (arith, same), λ o e. let is : x.hart.state ≡ o = cc in ap is_free (sym is) ∙ free)
+    by false free at rest = let later = rest at in let same = later.1 in (suc later.0, omega (arith, same), later.2)
 
-set_stays : (slots : List Slot) (slot : ℕ) (x : Slot) → ((o : HartState) → state_at slots slot ≡ Some o → is_free o ≡ true) → StaysWaiting slots (Rattle.std.proofs.Common.set slots slot x)
+set_stays : (slots : List Slot) (slot : ℕ) (x : Slot) → ((o : HartState) → state_at slots slot ≡ Some o → is_free o ≡ true) → StaysWaiting slots (set slots slot x)
 set_stays [] slot x free k place at = at
 set_stays (y ∷ ys) zero x free zero place at = let no = free (Waiting place) at in absurd (cc)
 set_stays (y ∷ ys) zero x free (suc k) place at = at
@@ -118,11 +121,8 @@ stays_child slot child (Some parent) slots free k place at = set_stays slots slo
 
 pub ready_absent : (waiting : List Waiter) (slots : List Slot) (h : ℕ) → is_ready_slot (slice_get slots h) ≡ true → Waits waiting (map hart_of slots) → has_slot h waiting ≡ false
 ready_absent [] slots h can waits = refl
-ready_absent (w ∷ ws) slots h can waits = by (nat_eq h w.slot) refl
+ready_absent (w ∷ ws) slots h can waits = by (nat_eq h w.slot) refl (ready_absent ws slots h can (λ k d within. waits (suc k) d (omega (arith, within))))
   where
-    rest : Waits ws (map hart_of slots)
-    rest k d within = waits (suc k) d (omega (arith, within))
-
     apart : state_at slots h ≡ Some (Waiting w.place) → ⊥
     apart at = by (slice_get slots h) can at
       where
@@ -130,11 +130,11 @@ ready_absent (w ∷ ws) slots h can waits = by (nat_eq h w.slot) refl
         by None can at = cc
         by (Some slot) can at = let is : slot.hart.state ≡ Waiting w.place = cc in let no : is_ready slot.hart.state ≡ false = ap is_ready is in cc
 
-    by : (b : Bool) → nat_eq h w.slot ≡ b → has_slot h (w ∷ ws) ≡ false
-    by true same =
+    by : (b : Bool) → nat_eq h w.slot ≡ b → has_slot h ws ≡ false → has_slot h (w ∷ ws) ≡ false
+    by true same others =
         let is = eqb-true h w.slot same in
         absurd (apart (ap (state_at slots) is ∙ waits_get slots w.slot w.place (waits 0 w (omega arith))))
-    by false other = ap (λ b. Rattle.std.proofs.Common.◌||◌ b (has_slot h ws)) other ∙ ready_absent ws slots h can rest
+    by false other others = ap (λ b. b || has_slot h ws) other ∙ others
 
 -- the harts that are not woken go on waiting
 
@@ -146,20 +146,57 @@ unfolding readied
 readied_apart [] k slots apart = refl
 readied_apart (w ∷ ws) k slots apart =
     readied_apart ws k (changed (on_hart ready) w.slot slots) apart.1
-    ∙ ap (option_map state_of) (changed-other (on_hart ready) w.slot slots k (λ same. let no = apart.0 in let yes : nat_eq k w.slot ≡ true = grind (arith, Rattle.std.proofs.lemmas.Bool.Decides.nat_tests, same) in cc))
-
-abbrev woken_by : ℕ → ℕ → List Waiter → List Waiter
-woken_by place most waiting = woken place most waiting
+    ∙ ap (option_map state_of) (changed-other (on_hart ready) w.slot slots k (λ same. let no = apart.0 in let yes : nat_eq k w.slot ≡ true = grind (arith, nat_tests, same) in cc))
 
 woken_apart : (k place most : ℕ) (waiting : List Waiter) → Apart k waiting → Apart k (woken place most waiting)
 woken_apart k place zero waiting apart = tt
 woken_apart k place (suc most) [] apart = tt
-woken_apart k place (suc most) (w ∷ ws) apart = by (waits_at place w)
-  where
-    by : (b : Bool) → Apart k (Rattle.std.proofs.Common.take (suc most) (if b then w ∷ Rattle.std.specs.List.filter (waits_at place) ws else Rattle.std.specs.List.filter (waits_at place) ws))
-    by true = (apart.0, woken_apart k place most ws apart.1)
-    by false = woken_apart k place (suc most) ws apart.1
+woken_apart k place (suc most) (w ∷ ws) apart =
+    if_by (λ (ys : List Waiter). Apart k (take (suc most) ys)) (waits_at place w) (w ∷ filter (waits_at place) ws) (filter (waits_at place) ws)
+    (λ e. (apart.0, woken_apart k place most ws apart.1)) (λ e. woken_apart k place (suc most) ws apart.1)
+
+waits_apart : (ws : List Waiter) (h : ℕ) (old new : List Slot) → ((k : ℕ) → nat_eq h k ≡ false → state_at new k ≡ state_at old k) → Apart h ws → Waits ws (map hart_of old) → Waits ws (map hart_of new)
+waits_apart [] h old new same apart waits = λ k d within. absurd (omega (arith, within))
+waits_apart (w ∷ ws) h old new same apart waits =
+    All-cons (λ (x : Waiter). WaitsAt x (map hart_of new)) w ws
+    (get_waits new w.slot w.place (same w.slot apart.0 ∙ waits_get old w.slot w.place (waits 0 w (omega arith))))
+    (waits_apart ws h old new same apart.1 (λ k d within. waits (suc k) d (omega (arith, within))))
 
 pub rouse_waits : (place most : ℕ) (waiting : List Waiter) (slots : List Slot) → HasOwnSlots waiting → Waits waiting (map hart_of slots)
     → Waits (unwoken place most waiting) (map hart_of (readied (woken place most waiting) slots))
-rouse_waits place most waiting slots own waits = ?
+unfolding unwoken readied
+rouse_waits place most [] slots own waits = λ k d within. absurd (omega (arith, within))
+rouse_waits place zero (w ∷ ws) slots own waits = waits
+rouse_waits place (suc most) (w ∷ ws) slots own waits =
+    let others : Apart w.slot ws = IsDistinct-head nat_eq w.slot (slots_of ws) own.distinct in
+    let mine : HasOwnSlots ws = record { below = λ k d within. own.below (suc k) d (omega (arith, within)); distinct = IsDistinct-tail nat_eq w.slot (slots_of ws) own.distinct } in
+    let rest : Waits ws (map hart_of slots) = λ k d within. waits (suc k) d (omega (arith, within)) in
+    let woke : List Slot = changed (on_hart ready) w.slot slots in
+    let left : Waits ws (map hart_of woke) =
+    waits_apart ws w.slot slots woke
+    (λ k other. ap (option_map state_of) (changed-other (on_hart ready) w.slot slots k (λ same. let yes : nat_eq w.slot k ≡ true = grind (arith, nat_tests, same) in cc))) others rest in
+    either (waits_at place w) (rouse_waits place most ws woke mine left)
+    (All-cons (λ (x : Waiter). WaitsAt x (map hart_of (readied (woken place (suc most) ws) slots))) w (unwoken place (suc most) ws)
+    (get_waits (readied (woken place (suc most) ws) slots) w.slot w.place
+    (readied_apart (woken place (suc most) ws) w.slot slots (woken_apart w.slot place (suc most) ws others) ∙ waits_get slots w.slot w.place (waits 0 w (omega arith))))
+    (rouse_waits place (suc most) ws slots mine rest))
+  where
+    either : (b : Bool) → Waits (unwoken place most ws) (map hart_of (readied (take (suc most) (w ∷ filter (waits_at place) ws)) slots))
+        → Waits (w ∷ unwoken place (suc most) ws) (map hart_of (readied (woken place (suc most) ws) slots))
+        → Waits (if b then unwoken place most ws else w ∷ unwoken place (suc most) ws) (map hart_of (readied (take (suc most) (if b then w ∷ filter (waits_at place) ws else filter (waits_at place) ws)) slots))
+    either true kept other = kept
+    either false kept other = other
+
+-- a hart that begins to wait behind the others
+pub sleep_waits : (waiting : List Waiter) (slots : List Slot) (h place : ℕ) → is_ready_slot (slice_get slots h) ≡ true → Waits waiting (map hart_of slots)
+    → Waits (waiting ++ (record { slot = h; place = place }) ∷ []) (map hart_of (changed (on_hart (asleep place)) h slots))
+sleep_waits waiting slots h place can waits =
+    let new : Waiter = record { slot = h; place = place } in
+    let after = changed (on_hart (asleep place)) h slots in
+    let P : Waiter → Type 0 = λ x. WaitsAt x (map hart_of after) in
+    All-append P waiting (new ∷ []) (waits_kept waiting slots after (stays_ready (on_hart (asleep place)) h slots can) waits)
+    (All-cons P new [] (get_waits after h place (ap (option_map state_of) (changed-get (on_hart (asleep place)) h slots) ∙ there (slice_get slots h) can)) (λ k d within. absurd (omega (arith, within))))
+  where
+    there : (o : Option Slot) → is_ready_slot o ≡ true → option_map state_of (option_map (on_hart (asleep place)) o) ≡ Some (Waiting place)
+    there None can = absurd (cc)
+    there (Some slot) can = refl

@@ -13,3 +13,4 @@ pub mod Inside
 pub mod DeviceAnswers
 pub mod Legs
 pub mod Acts
+pub mod SlotActs

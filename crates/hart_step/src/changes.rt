@@ -25,6 +25,30 @@ impl Engine {
         self.steps += 1;
     }
 
+    /// Closes the frames of a hart whose calls are over.
+    pub(crate) fn close(&mut self, hart: u8)
+        ensures after { self.new ≡ record self.old {
+          state = with_closed self.old.state hart;
+        } }
+    {
+        self.slots.close(hart);
+    }
+
+    /// Puts a new hart into a free slot, made from its parent's, and counts a step.
+    pub(crate) fn add(&mut self, parent: u8, slot: u8, flags: u64, stack: u64, tls: u64, child: u64)
+        requires free { free_slot self.old.state.slots ≡ Some slot }
+        requires left { self.old.state.steps < self.old.state.budget }
+        ensures after { self.new ≡ record self.old {
+          state = counted self.old.state (with_new_hart self.old.state parent slot
+              (child_slot flags stack tls child self.old.state.next_tid));
+        } }
+    {
+        self.slots
+            .add(parent, slot, flags, stack, tls, child, self.next_tid);
+        self.next_tid += 1;
+        self.steps += 1;
+    }
+
     /// Gives the answer of a call to a hart, which goes on behind the call.
     pub(crate) fn set_answer(&mut self, hart: u8, value: i64)
         ensures after { self.new ≡ record self.old {

@@ -3,7 +3,7 @@ ghost use Rattle.std.specs.Prelude.{◌≡◌, ◌<◌, length, slice_get, Some}
 ghost use Rattle.guest_words.specs.CallChanges.{facts_of, is_readable, is_usable, is_writable, place_for, tid_of, word_at};
 ghost use Rattle.guest_words.specs.Calls.{reply_of};
 ghost use Rattle.guest_words.specs.State.{is_open};
-ghost use Rattle.hart_step.specs.Acts.{act_at, facts_for, mapped_for};
+ghost use Rattle.hart_step.specs.SlotActs.{act_at, facts_for, mapped_for, FitsIn, HasRoom};
 
 use crate::deciding::decide;
 use crate::engine::Engine;
@@ -28,6 +28,7 @@ impl Engine {
     pub(crate) fn reply(&self, hart: u8, request: &Request) -> Reply
         ensures value { result
             ≡ reply_of request.now (facts_of self.now.state hart request.now) }
+        ensures room { FitsIn self.now.state result }
     {
         answer(request, &self.facts(hart, request))
     }
@@ -35,6 +36,7 @@ impl Engine {
     #[tactic(auto, unfolding(guest_words::specs::CallChanges::facts_of))]
     fn facts(&self, hart: u8, request: &Request) -> Facts
         ensures value { result ≡ facts_for self.now.state hart request.now }
+        ensures room { HasRoom self.now.state request.now result.place }
     {
         Facts {
             other_live: self.slots.other_live(hart),
@@ -127,6 +129,7 @@ impl Engine {
     // Where the pages fit that a map asks for.
     fn place_for(&self, request: &Request) -> Option<u64>
         ensures value { result ≡ place_for self.now.state request.now }
+        ensures room { HasRoom self.now.state request.now result }
     {
         match *request {
             Request::Map { length, .. } => { self.guest.memory.free_place(length.div_ceil(PAGE)) }

@@ -1,15 +1,24 @@
-ghost use Rattle.std.specs.Prelude.{◌≡◌, ◌+◌, ◌*◌, ◌%◌, ◌<◌, ◌≤◌, ◌^◌, true, IsFalse, IsTrue, OnErr, OnOk};
-ghost use Rattle.guest_words.specs.Space.{can_write, with_number, with_zeros, without};
+ghost use Rattle.std.specs.Prelude.{◌≡◌, ◌+◌, ◌-◌, ◌*◌, ◌/◌, ◌%◌, max, ◌<◌, ◌≤◌, ◌^◌, false, true, IsFalse, IsTrue, OnErr, OnOk};
+ghost use Rattle.guest_words.specs.Space.{can_write, page_up, with_number, with_zeros, without};
 ghost use Rattle.guest_words.specs.Widths.{bytes_in};
 ghost use Rattle.guest_pages.specs.Stretch.{IsFree};
+ghost use Rattle.hart_step.specs.Live.{IsHeapClear};
+ghost use Rattle.hart_step.specs.SlotActs.{fitted};
 ghost use Rattle.guest_memory.specs.Noting.{Notes};
 
 use crate::guest::Guest;
 use crate::known::forget;
+use crate::mapping::page_up;
 use guest_words::limits::{HEAP_BYTES, PAGE};
 use guest_words::{MemoryWant, Rights, Width};
 use std::alloc::Global;
 use undo_log::Log;
+
+const HEAP_RIGHTS: Rights = Rights {
+    read: true,
+    write: true,
+    exec: false,
+};
 
 // Where `noted`, the log gets a note of all that is overwritten.
 impl Guest {
@@ -92,6 +101,7 @@ impl Guest {
         } }
         ensures notes { Notes noted log.old.notes log.new.notes self.old.memory self.new.memory }
         ensures room { log.old.spare ≤ log.new.spare + count }
+        ensures plain { noted ≡ false → log.new ≡ log.old }
     {
         if noted {
             self.memory.take_pages(from, count, log);
@@ -115,5 +125,73 @@ impl Guest {
             log.note_break(self.memory.brk());
         }
         self.memory.set_brk(to);
+    }
+
+    /// Moves the break, and its pages come or go.
+    pub(crate) fn move_brk(
+        &mut self,
+        alloc: Global,
+        to: u64,
+        log: &mut Log,
+        noted: bool,
+    ) -> Result<(), MemoryWant>
+        requires low { self.old.memory.low ≤ to }
+        requires high { to ≤ self.old.memory.low + HEAP_BYTES }
+        requires clear { IsHeapClear self.old.memory }
+        requires room { noted ≡ true
+            → 1 + max 1 ((page_up self.old.memory.brk - page_up to) / PAGE) ≤ log.old.spare }
+        ensures ok { OnOk result (self.new ≡ record self.old {
+          memory = record self.old.memory {
+            space = fitted self.old.memory.space (page_up self.old.memory.brk) (page_up to);
+            brk = to;
+            spare = self.new.memory.spare;
+          };
+        }) }
+        ensures notes { OnOk result
+            (Notes noted log.old.notes log.new.notes self.old.memory self.new.memory) }
+        ensures room { log.old.spare ≤ log.new.spare
+            + (1 + max 1 ((page_up self.old.memory.brk - page_up to) / PAGE)) }
+        ensures err { OnErr result ((self.new ≡ self.old) × (log.new ≡ log.old)) }
+    {
+        let _low = self.memory.low();
+        let old = page_up(self.memory.brk());
+        self.fit_pages(alloc, old, page_up(to), log, noted)?;
+        self.set_brk(to, log, noted);
+        Ok(())
+    }
+
+    // Pages come from an address up to a later one, or go down to an earlier one.
+    fn fit_pages(
+        &mut self,
+        alloc: Global,
+        old: u64,
+        new: u64,
+        log: &mut Log,
+        noted: bool,
+    ) -> Result<(), MemoryWant>
+        requires old { old % PAGE ≡ 0 }
+        requires new { new % PAGE ≡ 0 }
+        requires below { new < 2 ^ 63 }
+        requires free { IsFree self.old.memory.space old (new - old) }
+        requires room { noted ≡ true → max 1 ((old - new) / PAGE) ≤ log.old.spare }
+        ensures ok { OnOk result (self.new ≡ record self.old {
+          memory = record self.old.memory {
+            space = fitted self.old.memory.space old new;
+            spare = self.new.memory.spare;
+          };
+        }) }
+        ensures notes { OnOk result
+            (Notes noted log.old.notes log.new.notes self.old.memory self.new.memory) }
+        ensures room { log.old.spare ≤ log.new.spare + max 1 ((old - new) / PAGE) }
+        ensures err { OnErr result ((self.new ≡ self.old) × (log.new ≡ log.old)) }
+    {
+        if old < new {
+            self.map(alloc, old, (new - old) / PAGE, HEAP_RIGHTS, log, noted)?;
+            return Ok(());
+        }
+        if new < old {
+            self.unmap(new, (old - new) / PAGE, log, noted);
+        }
+        Ok(())
     }
 }

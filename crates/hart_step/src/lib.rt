@@ -3,10 +3,12 @@
 
 mod acts;
 mod before;
+mod calls;
 mod carry;
 mod changes;
 mod deciding;
 mod did;
+mod doing;
 mod engine;
 mod facts;
 mod guest;
@@ -16,6 +18,7 @@ mod hurry;
 mod known;
 mod leg;
 mod look;
+mod mapping;
 mod memory_rows;
 mod next_act;
 mod outcomes;
