@@ -1,15 +1,15 @@
 -- The reply to a call, and what it brings along.
-use Rattle.std.proofs.Common.{◌≡◌, ℕ, ◌%◌, Bool, true, false, not, ◌==◌, ◌||◌, nat_lt, nat_le, ◌≤◌, ◌⊎◌, ◌-◌, ◌/◌, ◌*◌, max, inl, inr, arith, if◌then◌else◌, ◌+◌, pos, ℤ, length, Option, Some, None, IsTrue, IsFalse, refl, ap, sym, ◌∙◌, subst, slice_get}
+use Rattle.std.proofs.Common.{◌≡◌, ℕ, ◌%◌, Bool, true, false, not, ◌==◌, ◌||◌, nat_lt, nat_le, ◌≤◌, ◌-◌, ◌/◌, ◌*◌, max, arith, if◌then◌else◌, ◌+◌, ℤ, length, Option, Some, None, IsTrue, IsFalse, refl, ap, sym, ◌∙◌, subst}
 use Rattle.guest_words.specs.declared.call.Request.{Request as Call}
 use Rattle.guest_words.specs.declared.call.Request.TheVariants as request
 use Rattle.guest_words.specs.declared.call.Reply.{Reply}
 use Rattle.guest_words.specs.declared.call.Reply.TheVariants as reply
 use Rattle.guest_words.specs.declared.image.Rights.{Rights}
 use Rattle.guest_words.specs.declared.limits.TheConstants.{HEAP_BYTES, MAP_PAGES, PAGE}
-use Rattle.guest_words.specs.declared.linux.TheConstants.{PROT_WRITE, EAGAIN, EBADF, EFAULT, EINVAL, ENOMEM, ENOSYS}
-use Rattle.guest_words.specs.CallChanges.{any_other, facts_of, free_place, free_slot, is_live, is_readable, is_usable, mapped_pages, place_for, tid_of, word_at}
+use Rattle.guest_words.specs.declared.linux.TheConstants.{PROT_WRITE}
+use Rattle.guest_words.specs.CallChanges.{any_other, facts_of, free_place, free_slot, is_live, is_readable, is_usable, mapped_pages, place_for, word_at}
 use Rattle.guest_words.specs.Calls.{child_in, cut, has_flag, is_in_area, is_map_known, makes_hart, mapped_at, mapped_rights, reply_of, reply_of_transfer}
-use Rattle.guest_words.specs.Space.{can_read, can_write, page_up, pages_in}
+use Rattle.guest_words.specs.Space.{page_up, pages_in}
 use Rattle.guest_words.specs.Word.{low_32}
 use Rattle.guest_words.specs.State.{State, frames_at}
 use Rattle.run_history.proofs.Ands.{and_left, and_right, if_by}

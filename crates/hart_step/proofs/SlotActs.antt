@@ -1,21 +1,18 @@
 -- The act of the hart in a slot, and what it is in the state.
-use Rattle.std.proofs.Common.{◌≡◌, ◌≢◌, ℕ, ◌<◌, Bool, true, false, length, Option, Some, None, Result, Ok, Err, option_map, refl, ap, sym, ◌∙◌, subst, slice_get}
+use Rattle.std.proofs.Common.{◌≡◌, ℕ, Bool, length, Option, Some, None, Result, Ok, Err, option_map, refl, ap, sym, ◌∙◌, subst, slice_get}
 use Rattle.std.specs.Prelude.{IfOk}
 use Rattle.guest_words.specs.declared.act.Act.{Act}
 use Rattle.guest_words.specs.declared.act.Act.TheVariants as act
 use Rattle.guest_words.specs.declared.act.Write.{Write}
 use Rattle.guest_words.specs.declared.hart.Hart.{Hart}
 use Rattle.guest_words.specs.declared.hart.Slot.{Slot}
-use Rattle.guest_words.specs.Act.{StateAct, Ordinary, Fault, Request, Arrival, End, Absent, act_of, act_of_slot, in_state}
-use Rattle.guest_words.specs.HartAct.{hart_act}
+use Rattle.guest_words.specs.Act.{act_of, act_of_slot, in_state}
 use Rattle.guest_words.specs.State.{State}
 use Rattle.run_history.specs.After.{moved, next}
 use Rattle.run_history.proofs.InstCases.{InstCases, hart_act_by}
 use Rattle.hart_step.specs.SlotActs.{act_at, slot_act, MayWrite}
 use Rattle.hart_step.specs.Noted.{notes_for, notes_of_act, notes_of_slot}
-use Rattle.hart_step.specs.Sees.{named, is_ordinary_act}
 use Rattle.hart_step.specs.Stops.{act_wants, slot_wants, wants_memory}
-use Rattle.hart_step.specs.declared.next_act.NextAct.{NextAct}
 
 -- what is said of the act alone, by what it is of the slot
 module _ {A : Type 0} (of_slot : Option Slot → A) (of_act : Act → A) (s : State) where

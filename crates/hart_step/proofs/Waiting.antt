@@ -1,6 +1,6 @@
 -- The harts of the waiting list wait, whatever other harts do.
-use Rattle.std.proofs.Common.{◌≡◌, ◌≢◌, ℕ, zero, suc, ◌+◌, ◌<◌, Bool, true, false, if◌then◌else◌, List, [], ◌∷◌, ◌++◌, length, get_or, set, map, take, ◌||◌, nat_eq, Option, Some, None, option_map, inl, inr, ◌⊎◌, refl, ap, sym, ◌∙◌, subst, slice_get, arith}
-use Rattle.std.specs.List.{All, AllByRecursion, IsDistinct, filter, position_from}
+use Rattle.std.proofs.Common.{◌≡◌, ℕ, zero, suc, ◌+◌, ◌<◌, Bool, true, false, if◌then◌else◌, List, [], ◌∷◌, ◌++◌, length, get_or, set, map, take, ◌||◌, nat_eq, Option, Some, None, option_map, inl, inr, refl, ap, sym, ◌∙◌, subst, slice_get, arith}
+use Rattle.std.specs.List.{AllByRecursion, filter, position_from}
 use Rattle.std.proofs.lemmas.Bool.{eqb-true}
 use Rattle.std.proofs.lemmas.Bool.Decides.{nat_tests}
 use Rattle.std.proofs.lemmas.List.Elements.{All-cons, All-append}
@@ -8,7 +8,7 @@ use Rattle.std.proofs.lemmas.Map.Keys.{IsDistinct-head, IsDistinct-tail}
 use Rattle.std.proofs.lemmas.Option.{slice_get-map}
 use Rattle.guest_words.specs.declared.hart.Hart.{Hart}
 use Rattle.guest_words.specs.declared.hart.HartState.{HartState}
-use Rattle.guest_words.specs.declared.hart.HartState.TheVariants.{Ready, Waiting, Gone, Empty}
+use Rattle.guest_words.specs.declared.hart.HartState.TheVariants.{Waiting, Empty}
 use Rattle.guest_words.specs.declared.hart.Slot.{Slot}
 use Rattle.guest_words.specs.declared.hart.Waiter.{Waiter}
 use Rattle.guest_words.specs.CallChanges.{asleep, free_slot, readied, ready, unwoken, waits_at, with_child, woken}

@@ -1,4 +1,4 @@
-use Rattle.std.proofs.Common.{Some, ap, sym, ◌∙◌, arith}
+use Rattle.std.proofs.Common.{ap, sym, ◌∙◌, arith}
 use Rattle.guest_words.specs.Act.{act_of_call, in_state}
 use Rattle.run_history.specs.After.{moved}
 use Rattle.hart_step.specs.Sees.{named}

@@ -1,4 +1,4 @@
-use Rattle.std.proofs.Common.{◌≡◌, ◌+◌, ◌-◌, ◌*◌, refl, inl, inr, subst, sym, arith}
+use Rattle.std.proofs.Common.{◌+◌, ◌-◌, ◌*◌, refl, inl, subst, sym}
 use Rattle.guest_words.specs.declared.limits.TheConstants.{HEAP_BYTES, PAGE}
 use Rattle.guest_words.specs.Harts.{touched}
 use Rattle.guest_words.specs.Space.{page_up}

@@ -1,4 +1,4 @@
-use Rattle.std.proofs.Common.{◌≡◌, ℕ, true, ap, sym, ◌∙◌, subst, arith}
+use Rattle.std.proofs.Common.{◌≡◌, ℕ, ap, sym, ◌∙◌, subst, arith}
 use Rattle.guest_words.specs.declared.call.Reply.{Reply}
 use Rattle.guest_words.specs.declared.call.Reply.TheVariants as reply
 use Rattle.guest_words.specs.declared.call.Request.{Request as Call}

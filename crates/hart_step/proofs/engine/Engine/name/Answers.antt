@@ -1,7 +1,6 @@
-use Rattle.std.proofs.Common.{◌≡◌, Some, ap, sym, ◌∙◌, subst}
+use Rattle.std.proofs.Common.{ap, sym, ◌∙◌, subst}
 use Rattle.guest_words.specs.Act.{replied}
 use Rattle.guest_words.specs.declared.call.Reply.{Reply}
-use Rattle.guest_words.specs.declared.call.Reply.TheVariants as reply
 use Rattle.hart_step.specs.Sees.{named}
 use Rattle.hart_step.proofs.Replies.{brings, ordinary_reply, port_reaches, Brings}
 use Rattle.hart_step.proofs.engine.Engine.name.Goals as goal

@@ -1,4 +1,4 @@
-use Rattle.std.proofs.Common.{◌≡◌, [], ◌∷◌, ◌++◌, List, map, true, refl, subst, sym}
+use Rattle.std.proofs.Common.{◌≡◌, List, map, true, subst, sym}
 use Rattle.run_history.specs.Legal.{is_ready_at}
 use Rattle.hart_step.specs.Live.{Live}
 use Rattle.guest_words.specs.declared.hart.Slot.{Slot}

@@ -1,10 +1,9 @@
-use Rattle.std.proofs.Common.{◌≡◌, ℕ, refl, ap, subst, sym}
+use Rattle.std.proofs.Common.{ℕ, refl, ap, subst, sym}
 use Rattle.guest_words.specs.Harts.{touched}
 use Rattle.guest_words.specs.Space.{with_number}
 use Rattle.guest_words.specs.State.{on_each}
 use Rattle.hart_step.specs.contracts.engine.Engine.{the_view}
 use Rattle.guest_words.specs.Widths.{bytes_in}
-use Rattle.guest_memory.specs.Kept.{AddressSpace}
 use Rattle.guest_memory.proofs.Ranges.{free_after_number}
 use Rattle.run_history.proofs.ByteLengths.{length-low_bytes}
 use Rattle.hart_step.specs.Ground.{Ground}

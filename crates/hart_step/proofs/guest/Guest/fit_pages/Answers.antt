@@ -1,4 +1,4 @@
-use Rattle.std.proofs.Common.{◌≡◌, ℕ, ◌-◌, ◌*◌, ◌/◌, ap, sym, ◌∙◌, subst, arith}
+use Rattle.std.proofs.Common.{◌≡◌, ℕ, ◌-◌, ap, sym, ◌∙◌, subst, arith}
 use Rattle.guest_words.specs.CallChanges.{heap_rights}
 use Rattle.guest_words.specs.Space.{Space, with_zeros, without}
 use Rattle.hart_step.specs.Ground.{Ground}
