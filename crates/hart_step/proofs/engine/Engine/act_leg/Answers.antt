@@ -10,8 +10,9 @@ use Rattle.undo_log.specs.Noted.{Noted}
 use Rattle.hart_step.proofs.Legs.{act_open, free_ready, leg_empty, leg_one, other_act, ready_within, stops_other}
 use Rattle.hart_step.proofs.engine.Engine.act_leg.Goals as goal
 
-pub next_act-requires-clause-within : goal.next_act-requires-clause-within
-next_act-requires-clause-within c = ready_within c.args.self.now.state c.args.hart (free_ready c.args.self.now.state c.args.hart c.requires.free)
+pub next_act-requires : goal.next_act-requires
+next_act-requires c =
+    record { within = ready_within c.args.self.now.state c.args.hart (free_ready c.args.self.now.state c.args.hart c.requires.free) }
 
 pub returns-then-wants_memory-clause-leg : goal.returns-then-wants_memory-clause-leg
 returns-then-wants_memory-clause-leg c = leg_empty c.args.noted c.args.self.now.state c.args.self.now.state c.args.hart c.last.result.count refl (ap (λ (l : Leg). l.count) c.last.ensures.value)
