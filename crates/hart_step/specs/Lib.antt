@@ -12,5 +12,4 @@ pub mod Returns
 pub mod Inside
 pub mod DeviceAnswers
 pub mod Legs
-pub mod Acts
 pub mod SlotActs
