@@ -69,6 +69,7 @@ impl Engine {
             → (self.new ≡ self.old) × (log.new ≡ log.old)) }
         ensures notes { OnOk result
             (Notes noted log.old.notes log.new.notes (space_of self.old) (space_of self.new)) }
+        ensures few { length log.new.notes ≤ length log.old.notes + notes_for self.old.state hart }
         ensures room { log.old.spare ≤ log.new.spare + notes_for self.old.state hart }
         ensures err { OnErr result ((self.new ≡ self.old) × (log.new ≡ log.old)) }
     {
@@ -93,6 +94,7 @@ impl Engine {
             → (self.new ≡ self.old) × (log.new ≡ log.old) }
         ensures notes { Notes noted log.old.notes log.new.notes
             (space_of self.old) (space_of self.new) }
+        ensures few { length log.new.notes ≤ length log.old.notes + 1 }
         ensures room { log.old.spare ≤ log.new.spare + 1 }
     {
         let _left = self.steps < self.budget;
@@ -123,6 +125,8 @@ impl Engine {
             → (self.new ≡ self.old) × (log.new ≡ log.old)) }
         ensures notes { OnOk result (Notes noted log.old.notes log.new.notes
             (space_of self.old) (space_of self.new)) }
+        ensures few { length log.new.notes
+            ≤ length log.old.notes + notes_of_call self.old.state request.now }
         ensures room { log.old.spare
             ≤ log.new.spare + notes_of_call self.old.state request.now }
         ensures err { OnErr result ((self.new ≡ self.old) × (log.new ≡ log.old)) }

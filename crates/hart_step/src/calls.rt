@@ -1,5 +1,5 @@
 //! Ordinary calls that want no memory, each with the closing of frames and the step that it counts.
-ghost use Rattle.std.specs.Prelude.{◌≡◌, ◌+◌, ◌<◌, ◌≤◌, Some, slice_get, true};
+ghost use Rattle.std.specs.Prelude.{◌≡◌, ◌+◌, ◌<◌, ◌≤◌, Some, slice_get, true, length};
 ghost use Rattle.guest_words.specs.CallChanges.{answered, clear_of, cleared, clones, exits, free_slot, queued, wakes, with_parent_tid};
 ghost use Rattle.guest_words.specs.State.{with_closed, with_hart};
 ghost use Rattle.guest_memory.specs.Noting.{Notes};
@@ -60,6 +60,7 @@ impl Engine {
         } }
         ensures notes { Notes noted log.old.notes log.new.notes
             (space_of self.old) (space_of self.new) }
+        ensures few { length log.new.notes ≤ length log.old.notes + 1 }
         ensures room { log.old.spare ≤ log.new.spare + 1 }
     {
         let place = self.clear_at(hart);
@@ -83,6 +84,7 @@ impl Engine {
         ensures after { self.new ≡ record self.old { state = cleared self.old.state place } }
         ensures notes { Notes noted log.old.notes log.new.notes
             (space_of self.old) (space_of self.new) }
+        ensures few { length log.new.notes ≤ length log.old.notes + 1 }
         ensures room { log.old.spare ≤ log.new.spare + 1 }
     {
         if place != 0 && self.guest.memory.can_write(place, 4) {
@@ -113,6 +115,7 @@ impl Engine {
         } }
         ensures notes { Notes noted log.old.notes log.new.notes
             (space_of self.old) (space_of self.new) }
+        ensures few { length log.new.notes ≤ length log.old.notes + 1 }
         ensures room { log.old.spare ≤ log.new.spare + 1 }
     {
         let tid = self.next_tid;
@@ -130,6 +133,7 @@ impl Engine {
         } }
         ensures notes { Notes noted log.old.notes log.new.notes
             (space_of self.old) (space_of self.new) }
+        ensures few { length log.new.notes ≤ length log.old.notes + 1 }
         ensures room { log.old.spare ≤ log.new.spare + 1 }
     {
         if flags & CLONE_PARENT_SETTID != 0 && self.guest.memory.can_write(place, 4) {

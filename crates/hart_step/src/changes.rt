@@ -85,6 +85,7 @@ impl Engine {
         } }
         ensures notes { Notes noted log.old.notes log.new.notes
             (space_of self.old) (space_of self.new) }
+        ensures few { length log.new.notes ≤ length log.old.notes + 1 }
         ensures room { log.old.spare ≤ log.new.spare + 1 }
     {
         self.guest.store(address, width, value, log, noted);

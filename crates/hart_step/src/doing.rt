@@ -1,5 +1,5 @@
 //! Ordinary acts that want no memory.
-ghost use Rattle.std.specs.Prelude.{◌≡◌, ℕ, ◌+◌, ◌<◌, ◌≤◌, false, min, Some, true};
+ghost use Rattle.std.specs.Prelude.{◌≡◌, ℕ, ◌+◌, ◌<◌, ◌≤◌, false, min, Some, true, length};
 ghost use Rattle.guest_words.specs.Act.{in_state, replied, written};
 ghost use Rattle.guest_words.specs.CallChanges.{facts_of, free_slot};
 ghost use Rattle.guest_words.specs.Calls.{reply_of};
@@ -35,6 +35,8 @@ impl Engine {
             → (self.new ≡ self.old) × (log.new ≡ log.old) }
         ensures notes { Notes noted log.old.notes log.new.notes
             (space_of self.old) (space_of self.new) }
+        ensures few { length log.new.notes
+            ≤ length log.old.notes + min 1 (notes_of_act self.old.state act.now) }
         ensures room { log.old.spare
             ≤ log.new.spare + min 1 (notes_of_act self.old.state act.now) }
     {
@@ -59,6 +61,7 @@ impl Engine {
             (with_closed (written (with_hart self.old.state slot (λ before. hart)) write) slot) }
         ensures notes { Notes noted log.old.notes log.new.notes
             (space_of self.old) (space_of self.new) }
+        ensures few { length log.new.notes ≤ length log.old.notes + 1 }
         ensures room { log.old.spare ≤ log.new.spare + 1 }
     {
         self.put(slot, hart);
@@ -72,6 +75,7 @@ impl Engine {
         ensures after { self.new ≡ record self.old { state = written self.old.state write } }
         ensures notes { Notes noted log.old.notes log.new.notes
             (space_of self.old) (space_of self.new) }
+        ensures few { length log.new.notes ≤ length log.old.notes + 1 }
         ensures room { log.old.spare ≤ log.new.spare + 1 }
     {
         if let Some(
@@ -107,6 +111,8 @@ impl Engine {
             → (self.new ≡ self.old) × (log.new ≡ log.old) }
         ensures notes { Notes noted log.old.notes log.new.notes
             (space_of self.old) (space_of self.new) }
+        ensures few { length log.new.notes
+            ≤ length log.old.notes + min 1 (notes_of_call self.old.state request.now) }
         ensures room { log.old.spare
             ≤ log.new.spare + min 1 (notes_of_call self.old.state request.now) }
     {
@@ -129,6 +135,8 @@ impl Engine {
             ≡ moved self.old.state (replied self.old.state hart reply request.now) }
         ensures notes { Notes noted log.old.notes log.new.notes
             (space_of self.old) (space_of self.new) }
+        ensures few { length log.new.notes
+            ≤ length log.old.notes + min 1 (notes_of_call self.old.state request.now) }
         ensures room { log.old.spare
             ≤ log.new.spare + min 1 (notes_of_call self.old.state request.now) }
     {
@@ -167,6 +175,8 @@ impl Engine {
             (replied self.old.state hart (reply.Child slot) request.now) }
         ensures notes { Notes noted log.old.notes log.new.notes
             (space_of self.old) (space_of self.new) }
+        ensures few { length log.new.notes
+            ≤ length log.old.notes + min 1 (notes_of_call self.old.state request.now) }
         ensures room { log.old.spare
             ≤ log.new.spare + min 1 (notes_of_call self.old.state request.now) }
     {

@@ -1,4 +1,4 @@
-ghost use Rattle.std.specs.Prelude.{◌≡◌, ◌≤◌, ◌<◌, ◌+◌, ◌++◌, true, false, IfOk};
+ghost use Rattle.std.specs.Prelude.{◌≡◌, ◌≤◌, ◌<◌, ◌+◌, ◌++◌, true, false, IfOk, length};
 ghost use Rattle.guest_words.specs.HartAct.{hart_act};
 ghost use Rattle.guest_memory.specs.Noting.{Notes};
 ghost use Rattle.hart_step.specs.InARow.{lone, IsRow};
@@ -75,6 +75,7 @@ impl Guest {
         ensures notes { Notes noted log.old.notes log.new.notes self.old.memory self.new.memory }
         ensures stops { result.closed ≡ false → result.count < most
             → result.did ≡ did_of (hart_act self.new.memory.space self.old.points frames hart.new) }
+        ensures few { length log.new.notes ≤ length log.old.notes + result.count }
         ensures spare { log.old.spare ≤ log.new.spare + result.count }
         ensures points { self.new.points ≡ self.old.points }
         ensures zero { HasZero hart.new }

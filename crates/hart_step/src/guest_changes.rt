@@ -1,3 +1,4 @@
+ghost use Rattle.std.specs.Prelude.{length};
 ghost use Rattle.std.specs.Prelude.{◌≡◌, ◌+◌, ◌-◌, ◌*◌, ◌/◌, ◌%◌, max, ◌<◌, ◌≤◌, ◌^◌, false, true, IsFalse, IsTrue, OnErr, OnOk};
 ghost use Rattle.guest_words.specs.Space.{can_write, page_up, with_number, with_zeros, without};
 ghost use Rattle.guest_words.specs.Widths.{bytes_in};
@@ -39,6 +40,7 @@ impl Guest {
           };
         } }
         ensures notes { Notes noted log.old.notes log.new.notes self.old.memory self.new.memory }
+        ensures few { length log.new.notes ≤ length log.old.notes + 1 }
         ensures room { log.old.spare ≤ log.new.spare + 1 }
     {
         let Ok(before) = self
@@ -78,6 +80,7 @@ impl Guest {
         }) }
         ensures notes { OnOk result
             (Notes noted log.old.notes log.new.notes self.old.memory self.new.memory) }
+        ensures few { length log.new.notes ≤ length log.old.notes + 1 }
         ensures room { log.old.spare ≤ log.new.spare + 1 }
         ensures err { OnErr result ((self.new ≡ self.old) × (log.new ≡ log.old)) }
     {
@@ -100,6 +103,7 @@ impl Guest {
           };
         } }
         ensures notes { Notes noted log.old.notes log.new.notes self.old.memory self.new.memory }
+        ensures few { length log.new.notes ≤ length log.old.notes + count }
         ensures room { log.old.spare ≤ log.new.spare + count }
         ensures plain { noted ≡ false → log.new ≡ log.old }
     {
@@ -119,6 +123,7 @@ impl Guest {
         ensures value { self.new
             ≡ record self.old { memory = record self.old.memory { brk = to } } }
         ensures notes { Notes noted log.old.notes log.new.notes self.old.memory self.new.memory }
+        ensures few { length log.new.notes ≤ length log.old.notes + 1 }
         ensures room { log.old.spare ≤ log.new.spare + 1 }
     {
         if noted {
@@ -149,6 +154,8 @@ impl Guest {
         }) }
         ensures notes { OnOk result
             (Notes noted log.old.notes log.new.notes self.old.memory self.new.memory) }
+        ensures few { length log.new.notes ≤ length log.old.notes
+            + (1 + max 1 ((page_up self.old.memory.brk - page_up to) / PAGE)) }
         ensures room { log.old.spare ≤ log.new.spare
             + (1 + max 1 ((page_up self.old.memory.brk - page_up to) / PAGE)) }
         ensures err { OnErr result ((self.new ≡ self.old) × (log.new ≡ log.old)) }
@@ -182,6 +189,7 @@ impl Guest {
         }) }
         ensures notes { OnOk result
             (Notes noted log.old.notes log.new.notes self.old.memory self.new.memory) }
+        ensures few { length log.new.notes ≤ length log.old.notes + max 1 ((old - new) / PAGE) }
         ensures room { log.old.spare ≤ log.new.spare + max 1 ((old - new) / PAGE) }
         ensures err { OnErr result ((self.new ≡ self.old) × (log.new ≡ log.old)) }
     {

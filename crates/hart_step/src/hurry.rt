@@ -36,6 +36,7 @@ impl Engine {
             → frames_at self.new.state hart < frames_at self.old.state hart }
         ensures notes { Notes noted log.old.notes log.new.notes
             (space_of self.old) (space_of self.new) }
+        ensures few { length log.new.notes ≤ length log.old.notes + result.count }
         ensures room { log.old.spare ≤ log.new.spare + result.count }
     {
         let most = (self.budget - self.steps).min(u64::from(most)) as u32;
@@ -61,6 +62,7 @@ fn in_row(
     ensures row { HasRun guest.old.points hart slots.old slots.new guest.old.memory
         guest.new.memory result.count result.closed }
     ensures notes { Notes noted log.old.notes log.new.notes guest.old.memory guest.new.memory }
+    ensures few { length log.new.notes ≤ length log.old.notes + result.count }
     ensures spare { log.old.spare ≤ log.new.spare + result.count }
     ensures points { guest.new.points ≡ guest.old.points }
 {

@@ -1,5 +1,5 @@
 //! Parts of a row of acts: instructions at full speed, and single acts.
-ghost use Rattle.std.specs.Prelude.{◌≡◌, ◌+◌, ◌<◌, ◌≤◌, true, false, Some, map, slice_get};
+ghost use Rattle.std.specs.Prelude.{◌≡◌, ◌+◌, ◌<◌, ◌≤◌, true, false, Some, map, slice_get, length};
 ghost use Rattle.guest_words.specs.declared.hart.Slot.{Slot};
 ghost use Rattle.guest_words.specs.Endings.{is_budget_spent};
 ghost use Rattle.guest_words.specs.State.{frames_at};
@@ -63,6 +63,7 @@ impl Engine {
             → Stops noted self.old.state self.new.state hart result.next }
         ensures notes { Notes noted log.old.notes log.new.notes
             (space_of self.old) (space_of self.new) }
+        ensures few { length log.new.notes ≤ length log.old.notes + result.count }
         ensures room { log.old.spare ≤ log.new.spare + result.count }
     {
         if self.is_held(hart) {
@@ -94,6 +95,7 @@ impl Engine {
             → Stops noted self.old.state self.new.state hart result.next }
         ensures notes { Notes noted log.old.notes log.new.notes
             (space_of self.old) (space_of self.new) }
+        ensures few { length log.new.notes ≤ length log.old.notes + result.count }
         ensures room { log.old.spare ≤ log.new.spare + result.count }
     {
         if self.wants_memory(hart, noted) {

@@ -1,4 +1,5 @@
 //! Calls that change which pages are there.
+ghost use Rattle.std.specs.Prelude.{length};
 ghost use Rattle.std.specs.Prelude.{◌≡◌, ◌+◌, ◌-◌, ◌*◌, ◌/◌, ◌^◌, ◌<◌, ◌≤◌, false, max, IsFalse, IsTrue, OnErr, OnOk, Some, true};
 ghost use Rattle.guest_words.specs.Act.{replied};
 ghost use Rattle.guest_words.specs.Space.{page_up};
@@ -45,6 +46,7 @@ impl Engine {
         }) }
         ensures notes { OnOk result (Notes noted log.old.notes log.new.notes
             (space_of self.old) (space_of self.new)) }
+        ensures few { length log.new.notes ≤ length log.old.notes + 1 }
         ensures room { log.old.spare ≤ log.new.spare + 1 }
         ensures err { OnErr result ((self.new ≡ self.old) × (log.new ≡ log.old)) }
     {
@@ -69,6 +71,7 @@ impl Engine {
             (with_closed (unmaps self.old.state hart place count) hart) }
         ensures notes { Notes noted log.old.notes log.new.notes
             (space_of self.old) (space_of self.new) }
+        ensures few { length log.new.notes ≤ length log.old.notes + count }
         ensures room { log.old.spare ≤ log.new.spare + count }
         ensures plain { noted ≡ false → log.new ≡ log.old }
     {
@@ -95,6 +98,7 @@ impl Engine {
         }) }
         ensures notes { OnOk result (Notes noted log.old.notes log.new.notes
             (space_of self.old) (space_of self.new)) }
+        ensures few { length log.new.notes ≤ length log.old.notes + 1 }
         ensures room { log.old.spare ≤ log.new.spare + 1 }
         ensures err { OnErr result ((self.new ≡ self.old) × (log.new ≡ log.old)) }
     {
@@ -114,6 +118,7 @@ impl Engine {
         } }
         ensures notes { Notes noted log.old.notes log.new.notes
             (space_of self.old) (space_of self.new) }
+        ensures few { length log.new.notes ≤ length log.old.notes + count }
         ensures room { log.old.spare ≤ log.new.spare + count }
         ensures plain { noted ≡ false → log.new ≡ log.old }
     {
@@ -142,6 +147,8 @@ impl Engine {
             (reply_of request.now (facts_of self.old.state hart request.now)) request.now)) }
         ensures notes { OnOk result (Notes noted log.old.notes log.new.notes
             (space_of self.old) (space_of self.new)) }
+        ensures few { length log.new.notes
+            ≤ length log.old.notes + notes_of_call self.old.state request.now }
         ensures room { log.old.spare
             ≤ log.new.spare + notes_of_call self.old.state request.now }
         ensures err { OnErr result ((self.new ≡ self.old) × (log.new ≡ log.old)) }
@@ -172,6 +179,8 @@ impl Engine {
             ≡ moved self.old.state (replied self.old.state hart reply request.now)) }
         ensures notes { OnOk result (Notes noted log.old.notes log.new.notes
             (space_of self.old) (space_of self.new)) }
+        ensures few { length log.new.notes
+            ≤ length log.old.notes + notes_of_call self.old.state request.now }
         ensures room { log.old.spare
             ≤ log.new.spare + notes_of_call self.old.state request.now }
         ensures err { OnErr result ((self.new ≡ self.old) × (log.new ≡ log.old)) }
@@ -215,6 +224,8 @@ impl Engine {
             (with_closed (breaks self.old.state hart to) hart)) }
         ensures notes { OnOk result (Notes noted log.old.notes log.new.notes
             (space_of self.old) (space_of self.new)) }
+        ensures few { length log.new.notes ≤ length log.old.notes
+            + (1 + max 1 ((page_up self.old.state.brk - page_up to) / PAGE)) }
         ensures room { log.old.spare ≤ log.new.spare
             + (1 + max 1 ((page_up self.old.state.brk - page_up to) / PAGE)) }
         ensures err { OnErr result ((self.new ≡ self.old) × (log.new ≡ log.old)) }
@@ -242,6 +253,8 @@ impl Engine {
         }) }
         ensures notes { OnOk result (Notes noted log.old.notes log.new.notes
             (space_of self.old) (space_of self.new)) }
+        ensures few { length log.new.notes ≤ length log.old.notes
+            + (1 + max 1 ((page_up self.old.state.brk - page_up to) / PAGE)) }
         ensures room { log.old.spare ≤ log.new.spare
             + (1 + max 1 ((page_up self.old.state.brk - page_up to) / PAGE)) }
         ensures err { OnErr result ((self.new ≡ self.old) × (log.new ≡ log.old)) }

@@ -1,3 +1,4 @@
+ghost use Rattle.std.specs.Prelude.{length};
 ghost use Rattle.std.specs.Prelude.{◌≡◌, ◌≤◌, ◌<◌, ◌+◌, ◌++◌, [], ◌∷◌, true, false, is_none, IfSome, OnSome};
 ghost use Rattle.guest_words.specs.HartAct.{hart_act};
 ghost use Rattle.guest_memory.specs.Noting.{Notes};
@@ -51,6 +52,7 @@ pub fn run(
     ensures notes { Notes noted log.old.notes log.new.notes memory.old memory.new }
     ensures stops { result.closed ≡ false → result.count < most
         → result.did ≡ did_of (hart_act memory.new.space points.now frames hart.new) }
+    ensures few { length log.new.notes ≤ length log.old.notes + result.count }
     ensures spare { log.old.spare ≤ log.new.spare + result.count }
     ensures table { IsTable memory.new.space points.now table.new }
     ensures zero { HasZero hart.new }
@@ -115,6 +117,7 @@ fn go(
     ensures notes { Notes noted log.old.notes log.new.notes memory.old memory.new }
     ensures table { IsTable memory.new.space points.now table.new }
     ensures zero { HasZero hart.new }
+    ensures few { length log.new.notes ≤ length log.old.notes + 1 }
     ensures spare { log.old.spare ≤ log.new.spare + 1 }
     ensures kept { OnSome result (log.new ≡ log.old) }
 {
@@ -135,6 +138,7 @@ fn note(log: &mut Log, before: &Before)
     requires room { 0 < log.old.spare }
     ensures notes { log.new.notes ≡ log.old.notes
         ++ Note.Bytes before.now.address before.now.width before.now.number ∷ [] }
+    ensures few { length log.new.notes ≤ length log.old.notes + 1 }
     ensures room { log.new.spare + 1 ≡ log.old.spare }
 {
     match log.note_bytes(before.address, before.width, before.number) {

@@ -1,5 +1,5 @@
 //! Acts of a hart in a row.
-ghost use Rattle.std.specs.Prelude.{◌≡◌, ◌+◌, ◌<◌, ◌≤◌, true};
+ghost use Rattle.std.specs.Prelude.{◌≡◌, ◌+◌, ◌<◌, ◌≤◌, true, length};
 ghost use Rattle.guest_memory.specs.Noting.{Notes};
 ghost use Rattle.run_history.specs.After.{ran};
 ghost use Rattle.run_history.specs.Legal.{can_run};
@@ -24,6 +24,7 @@ impl Engine {
             → Stops noted self.old.state self.new.state hart result.next }
         ensures notes { Notes noted log.old.notes log.new.notes
             (space_of self.old) (space_of self.new) }
+        ensures few { length log.new.notes ≤ length log.old.notes + result.count }
         ensures room { log.old.spare ≤ log.new.spare + result.count }
     {
         let mut count = 0;

@@ -1,4 +1,4 @@
-use Rattle.std.proofs.Common.{◌≡◌, ◌∙◌, ◌+◌, ◌-◌, sym, ap, arith}
+use Rattle.std.proofs.Common.{◌≡◌, ◌∙◌, ◌+◌, ◌-◌, sym, ap, arith, length}
 use Rattle.std.specs.Option.{is_none}
 use Rattle.undo_log.specs.Noted.{Noted}
 use Rattle.guest_memory.proofs.Noted.{notes_both, notes_none}
@@ -16,6 +16,7 @@ loop-count-init c =
       after_none points c.args.frames s,
       open_none points c.args.frames c.args.top.now s,
       notes_none c.args.noted c.args.log.now.notes c.args.memory.now,
+      omega arith,
       omega arith,
     )
 
@@ -64,6 +65,9 @@ loop-count-preserved c =
       let room = so_far.6 in
           let spare = c.go.ensures.spare in
           omega (arith, room, spare),
+      let few = so_far.7 in
+          let one = c.go.ensures.few in
+          omega (arith, few, one),
     )
 
 pub go-requires-clause-room : goal.go-requires-clause-room
@@ -71,6 +75,12 @@ go-requires-clause-room c = λ under.
     let room = c.requires.room under in
     let spare = c.loop-count.invariant.6 in
     omega (arith, room, spare, c.loop-count-test.true)
+
+pub returns-in-Some-clause-few : goal.returns-in-Some-clause-few
+returns-in-Some-clause-few c =
+    let same = ap (λ (l : Noted). length l.notes) c.in-Some.ensures.kept in
+    let few = c.loop-count.invariant.7 in
+    omega (arith, same, few)
 
 pub returns-in-Some-clause-spare : goal.returns-in-Some-clause-spare
 returns-in-Some-clause-spare c =

@@ -1,4 +1,4 @@
-use Rattle.std.specs.Prelude.{◌≡◌, ◌+◌, ◌≤◌, true}
+use Rattle.std.specs.Prelude.{◌≡◌, ◌+◌, ◌≤◌, true, length}
 use Rattle.guest_memory.specs.Noting.{Notes}
 use Rattle.hart_step.specs.InARow.{after_acts, all_go, lone, stays_open}
 use Rattle.hart_step.specs.InPlace.{HasZero}
@@ -14,3 +14,4 @@ invariant-loop-count l =
     × (stays_open l.points l.frames l.top l.count (lone l.fn.hart l.fn.memory) ≡ true)
     × Notes l.noted l.fn.log.notes l.log.notes l.fn.memory l.memory
     × (l.fn.log.spare ≤ l.log.spare + l.count)
+    × (length l.log.notes ≤ length l.fn.log.notes + l.count)

@@ -1,4 +1,4 @@
-use Rattle.std.proofs.Common.{◌≡◌, ◌<◌, ◌≤◌, true, false, Option, Some, refl, ap, sym, ◌∙◌, subst, arith}
+use Rattle.std.proofs.Common.{◌≡◌, ◌<◌, ◌≤◌, true, false, Option, Some, refl, ap, sym, ◌∙◌, subst, arith, length}
 use Rattle.guest_words.specs.State.{State, frames_at}
 use Rattle.hart_step.specs.declared.next_act.NextAct.{NextAct}
 use Rattle.hart_step.specs.Live.{Live}
@@ -53,6 +53,7 @@ returns-in_default c =
     let back : t ≡ s = ap (λ (l : Live). l.state) same.0 in
     let none = ap (λ (l : Leg). l.count) value in
     let log = ap (λ (l : Noted). l.spare) same.1 in
+    let notes = ap (λ (l : Noted). length l.notes) same.1 in
     record {
       within = omega (arith, none);
       leg = leg_empty c.args.noted s t c.args.hart c.last-in_default.result.count back none;
@@ -62,5 +63,6 @@ returns-in_default c =
           subst (λ (next : Option NextAct). Stops c.args.noted s t c.args.hart next) (sym (ap (λ (l : Leg). l.next) value))
           (subst (λ (u : State). Stops c.args.noted s u c.args.hart (Some is)) (sym back) (stops_other c.args.noted s c.args.hart is other c.advance_free.ensures.value c.requires.free));
       notes = c.advance_free.ensures.notes;
+      few = omega (arith, notes, none);
       room = omega (arith, log, none);
     }

@@ -18,6 +18,12 @@ make-requires-clause-room c = λ noted.
     let room = c.requires.room noted in
     omega (arith, same, room)
 
+pub returns-in_default-clause-few : goal.returns-in_default-clause-few
+returns-in_default-clause-few c =
+    let same = notes-at c.args.self.now.state c.args.hart c.act-act.result c.act-act.ensures.value in
+    let few = c.make.ensures.few in
+    omega (arith, same, few)
+
 pub returns-in_default-clause-room : goal.returns-in_default-clause-room
 returns-in_default-clause-room c =
     let same = notes-at c.args.self.now.state c.args.hart c.act-act.result c.act-act.ensures.value in

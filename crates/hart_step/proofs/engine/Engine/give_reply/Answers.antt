@@ -1,4 +1,4 @@
-use Rattle.std.proofs.Common.{◌≡◌, ℕ, ap, sym, ◌∙◌, subst, arith}
+use Rattle.std.proofs.Common.{◌≡◌, ℕ, ap, sym, ◌∙◌, subst, arith, length}
 use Rattle.guest_words.specs.declared.call.Reply.{Reply}
 use Rattle.guest_words.specs.declared.call.Reply.TheVariants as reply
 use Rattle.guest_words.specs.declared.call.Request.{Request as Call}
@@ -65,6 +65,14 @@ returns-in-Wake-clause-after c =
     ap (λ (v : Live). v.state) c.wake_at.ensures.after
     ∙ sym (ap (λ (r : Reply). moved s (replied s c.args.hart r c.args.request.now)) c.in-Rouse.is
     ∙ ap (λ (x : Call). moved s (replied s c.args.hart (reply.Rouse c.in-Rouse.most) x)) c.in-Wake.is)
+
+pub returns-in-Unmap-clause-few : goal.returns-in-Unmap-clause-few
+returns-in-Unmap-clause-few c =
+    let s = c.args.self.now.state in
+    let call = c.args.request.now in
+    let plain = unmap_unnoted c.args.noted s c.args.hart call c.in-Unmap.place c.in-Unmap.count (has s c.args.hart call c.args.reply _ c.requires.reply c.in-Unmap.is) c.requires.free in
+    let same = ap (λ (l : Noted). length l.notes) (c.unmap_pages.ensures.plain plain) in
+    omega (arith, same)
 
 pub returns-in-Unmap-clause-room : goal.returns-in-Unmap-clause-room
 returns-in-Unmap-clause-room c =

@@ -78,6 +78,33 @@ unmap_pages-requires-clause-room c = λ noted.
     let room = c.requires.room noted in
     omega (arith, few, room)
 
+pub returns-in-Break-clause-few : goal.returns-in-Break-clause-few
+returns-in-Break-clause-few c =
+    let s = c.args.self.now.state in
+    let call = c.args.request.now in
+    let has = brought s c.args.hart call c.args.reply _ c.requires.reply c.in-Break.is in
+    let most = break_notes s c.args.hart call c.in-Break.to has in
+    let few = c.move_break.ensures.few in
+    omega (arith, most, few)
+
+pub returns-in-Map-clause-few : goal.returns-in-Map-clause-few
+returns-in-Map-clause-few c =
+    let s = c.args.self.now.state in
+    let call = c.args.request.now in
+    let has = brought s c.args.hart call c.args.reply _ c.requires.reply c.in-Map.is in
+    let one = map_notes s c.args.hart call c.in-Map.place c.in-Map.count c.in-Map.rights has in
+    let few = c.map_pages.ensures.few in
+    omega (arith, one, few)
+
+pub returns-in-Unmap-clause-few : goal.returns-in-Unmap-clause-few
+returns-in-Unmap-clause-few c =
+    let s = c.args.self.now.state in
+    let call = c.args.request.now in
+    let has = brought s c.args.hart call c.args.reply _ c.requires.reply c.in-Unmap.is in
+    let most = unmap_notes s c.args.hart call c.in-Unmap.place c.in-Unmap.count has in
+    let few = c.unmap_pages.ensures.few in
+    omega (arith, most, few)
+
 pub returns-in-Break-clause-room : goal.returns-in-Break-clause-room
 returns-in-Break-clause-room c =
     let s = c.args.self.now.state in

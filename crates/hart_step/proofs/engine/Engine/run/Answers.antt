@@ -11,6 +11,7 @@ loop-init c = record {
   leg = leg_none c.args.noted c.args.self.now.state c.args.hart;
   stays = refl;
   notes = notes_none c.args.noted c.args.log.now.notes (space_of c.args.self.now);
+  few = omega arith;
   room = omega arith;
   turns = omega arith;
 }
@@ -37,6 +38,8 @@ loop-preserved c =
     let within = c.leg-leg.ensures.within in
     let room = so_far.room in
     let more_room = c.leg-leg.ensures.room in
+    let few = so_far.few in
+    let more_few = c.leg-leg.ensures.few in
     let turns = so_far.turns in
     let old = so_far.within in
     let on = c.if-leg.false in
@@ -46,6 +49,7 @@ loop-preserved c =
       leg = leg_joined c.args.noted c.args.self.now.state c.loop.self.state c.leg-leg.new.self.state c.args.hart c.loop.count c.leg-leg.result.count so_far.leg so_far.stays c.leg-leg.ensures.leg;
       stays = c.leg-leg.ensures.stays on ∙ so_far.stays;
       notes = notes_both c.args.noted c.args.log.now.notes c.loop.log.notes c.leg-leg.new.log.notes (space_of c.args.self.now) (space_of c.loop.self) (space_of c.leg-leg.new.self) so_far.notes c.leg-leg.ensures.notes;
+      few = omega (arith, few, more_few);
       room = omega (arith, room, more_room);
       turns = omega (arith, turns, more);
     }
