@@ -56,6 +56,7 @@ impl Engine {
             → (self.new ≡ self.old) × (log.new ≡ log.old)) }
         ensures notes { OnOk result
             (Notes noted log.old.notes log.new.notes (space_of self.old) (space_of self.new)) }
+        ensures few { length log.new.notes ≤ length log.old.notes + notes_for self.old.state hart }
         ensures room { log.old.spare ≤ log.new.spare + notes_for self.old.state hart }
         ensures err { OnErr result ((self.new ≡ self.old) × (log.new ≡ log.old)) }
     {
@@ -76,6 +77,7 @@ impl Engine {
             → Stops noted self.old.state self.new.state hart result.next }
         ensures notes { Notes noted log.old.notes log.new.notes
             (space_of self.old) (space_of self.new) }
+        ensures few { length log.new.notes ≤ length log.old.notes + result.count }
         ensures room { log.old.spare ≤ log.new.spare + result.count }
     {
         unreachable!()

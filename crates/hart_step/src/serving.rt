@@ -53,6 +53,7 @@ impl Engine {
         ensures after { self.new.state ≡ called self.old.state hart call.now }
         ensures notes { Notes noted log.old.notes log.new.notes
             (space_of self.old) (space_of self.new) }
+        ensures few { length log.new.notes ≤ length log.old.notes + length call.now.bytes }
         ensures room { log.old.spare ≤ log.new.spare + length call.now.bytes }
     {
         unreachable!()
