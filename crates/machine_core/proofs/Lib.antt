@@ -4,3 +4,6 @@ pub mod Nesting
 pub mod Holding
 pub mod Making
 pub mod Asking
+pub mod Ends
+pub mod Opening
+pub mod Fails

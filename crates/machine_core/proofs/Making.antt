@@ -1,6 +1,6 @@
 -- How a step puts what it did to the open calls: room is made, calls close by the frames that are
 -- left, and entries and notes go behind.
-use Rattle.std.proofs.Common.{◌≡◌, ℕ, zero, suc, ◌+◌, ◌<◌, ◌≤◌, Bool, true, false, not, ◌||◌, nat_lt, List, [], ◌∷◌, ◌++◌, length, Option, Some, None, Ok, Err, OnOk, OnErr, refl, ap, sym, ◌∙◌, subst, arith}
+use Rattle.std.proofs.Common.{◌≡◌, ℕ, ◌+◌, ◌<◌, ◌≤◌, Bool, true, false, not, ◌||◌, nat_lt, List, [], ◌∷◌, ◌++◌, length, Option, Some, None, Ok, Err, OnOk, OnErr, refl, ap, sym, ◌∙◌, subst, arith}
 use Rattle.std.specs.declared.result.Result.{Result}
 use Rattle.edge_ports.specs.Seen.{Seen}
 use Rattle.guest_words.specs.Act.{StateAct, Ordinary, Fault, Request, Arrival, End, Absent}
@@ -76,19 +76,15 @@ few_notes false before after old new bytes asked notes room none x few short is 
 
 -- acts that weren't made changed nothing
 pub still : (old new : Live) (h n : ℕ) (after : List Note) → n ≡ 0 → new.state ≡ ran old.state h n → after ≡ [] → new.spare ≡ old.spare + gone_in after → new ≡ old
-still old new h n after zero to none spare =
-    let same : new.state ≡ old.state = to ∙ ap (ran old.state h) zero ∙ ran-none old.state h in
+still old new h n after unmade to none spare =
+    let same : new.state ≡ old.state = to ∙ ap (ran old.state h) unmade ∙ ran-none old.state h in
     let empty = ap gone_in none in
     let left : new.spare ≡ old.spare = omega (arith, spare, empty) in
     λ i. record { state = same i; spare = left i }
 
 pub nil_of : (before after : List Note) (n : ℕ) → before ≡ [] → n ≡ 0 → length after ≤ length before + n → after ≡ []
-nil_of before [] n none zero few = refl
-nil_of before (x ∷ xs) n none zero few = let empty = ap length none in absurd (omega (arith, empty, zero, few))
-
-pub zero_of : (n : ℕ) → (0 < n → ⊥) → n ≡ 0
-zero_of zero none = refl
-zero_of (suc n) none = absurd (none (omega arith))
+nil_of before [] n none unmade few = refl
+nil_of before (x ∷ xs) n none unmade few = let empty = ap length none in absurd (omega (arith, empty, unmade, few))
 
 pub on_err : {A E : Type 0} (r : Result A E) (P Q : Type 0) → (P → Q) → OnErr r P → OnErr r Q
 on_err (Ok x) P Q f p = tt

@@ -7,8 +7,9 @@ use Rattle.run_history.specs.declared.entry.Entry.{Entry}
 use Rattle.run_history.specs.After.{ran}
 use Rattle.run_history.specs.LastEntry.{with_acts}
 use Rattle.run_history.specs.Legal.{can_run}
+use Rattle.run_history.proofs.RunSteps.{ran-none}
 use Rattle.hart_step.specs.Live.{Live, space_of}
-use Rattle.hart_step.specs.Stops.{IsPlainRow, Stops}
+use Rattle.hart_step.specs.Stops.{IsPlainRow, Stops, is_held}
 use Rattle.open_calls.specs.Nest.{Stack}
 use Rattle.machine_core.specs.Inner.{Holds, Inner, IsGoing, inner_of}
 use Rattle.machine_core.specs.Kept.{HasDevices}
@@ -16,7 +17,7 @@ use Rattle.machine_core.specs.OpenSteps.{StaysOpen}
 use Rattle.machine_core.specs.Under.{Goes, IsWanting}
 use Rattle.machine_core.proofs.Asking.{acts_goes, acts_hold, acts_records}
 use Rattle.machine_core.proofs.Holding.{Puts}
-use Rattle.machine_core.proofs.Making.{few_notes, holds_log, lead, made, nil_of, not_held, on_err, on_ok, spares, still, zero_of}
+use Rattle.machine_core.proofs.Making.{few_notes, holds_log, lead, made, nil_of, not_held, on_err, on_ok, spares, still}
 use Rattle.machine_core.proofs.inner.Inner.act.Given as given
 use Rattle.machine_core.proofs.inner.Inner.act.Goals as goal
 
@@ -92,6 +93,20 @@ returns-then-count-gt0-clause-devices g c =
     c.run-count.result.count c.if-count-gt0.true (goes g c) (to g c) (puts_it g c))
     (subst (λ (x : Inner). HasDevices g.K.Origin.devices x e (spare c.args.devices.now)) (sym c.self.view_is) c.requires.devices)
 
+-- a ready hart with its budget left goes on
+pub unreachable-requires : goal.unreachable-requires
+unreachable-requires g c =
+    let own = c.hart-hart.ensures.value ∙ c.make_room.ensures.hart in
+    let none : c.run-count.result.count ≡ 0 = let few = c.if-count-gt0.false in omega (arith, few) in
+    let going = c.self.invariant.called (subst (λ (x : Inner). 0 < length x.nest.outers) (sym c.self.view_is) c.requires.called) in
+    let fresh : is_budget_spent c.self.inside.engine.state ≡ false = ap (λ (x : Inner). is_budget_spent x.live.state) c.self.view_is ∙ c.requires.left in
+    let to = c.run-count.ensures.after ∙ ap (ran c.self.inside.engine.state c.hart-hart.result) none ∙ ran-none c.self.inside.engine.state c.hart-hart.result in
+    let stops = subst (λ n. Stops true c.self.inside.engine.state c.run-count.new.self.state c.hart-hart.result n) c.in-None.is (c.run-count.ensures.stops (omega (arith, none))) in
+    elim stops [
+      | inl held ↦ not_held c.self.inside.engine.state c.self.inside.calls.hart going.under.ready fresh ((λ i. is_held (sym to i) (sym own i)) ∙ held)
+      | inr fewer ↦ let same = ap (λ (s : State). frames_at s c.hart-hart.result) to in absurd (omega (arith, fewer, same))
+    ]
+
 -- no act was made
 
 abbrev before : (g : given.Over) (c : goal.In-Some g) → Inner
@@ -102,11 +117,11 @@ after g c = inner_of c.run-count.new.self c.make_room.new.calls c.self.inside.ab
 
 none_of : (g : given.Over) (c : goal.In-Some g) → c.run-count.new.log.notes ≡ []
 none_of g c =
-    nil_of c.make_room.new.pending.notes c.run-count.new.log.notes c.run-count.result.count (c.make_room.ensures.same ∙ c.self.invariant.none) (zero_of c.run-count.result.count c.if-count-gt0.false) c.run-count.ensures.few
+    nil_of c.make_room.new.pending.notes c.run-count.new.log.notes c.run-count.result.count (c.make_room.ensures.same ∙ c.self.invariant.none) (let none = c.if-count-gt0.false in omega (arith, none)) c.run-count.ensures.few
 
 same : (g : given.Over) (c : goal.In-Some g) → after g c ≡ before g c
 same g c =
-    let live = still c.self.inside.engine c.run-count.new.self c.hart-hart.result c.run-count.result.count c.run-count.new.log.notes (zero_of c.run-count.result.count c.if-count-gt0.false) c.run-count.ensures.after (none_of g c)
+    let live = still c.self.inside.engine c.run-count.new.self c.hart-hart.result c.run-count.result.count c.run-count.new.log.notes (let none = c.if-count-gt0.false in omega (arith, none)) c.run-count.ensures.after (none_of g c)
     (spares true c.make_room.new.pending.notes c.run-count.new.log.notes (space_of c.self.inside.engine) (space_of c.run-count.new.self) (c.make_room.ensures.same ∙ c.self.invariant.none) c.run-count.ensures.notes) in
     λ i. record { hart = c.make_room.ensures.hart i; nest = c.make_room.ensures.nest i; live = live i; abandoned = c.self.inside.abandoned }
 
@@ -115,19 +130,51 @@ invariant_of-self-in-Some g c =
     subst (λ (x : Inner). Holds g.K.Origin.state g.K.Origin.devices x c.run-count.new.log) (sym (same g c))
     (holds_log g.K.Origin.state g.K.Origin.devices (before g c) c.self.inside.pending c.run-count.new.log c.self.invariant (none_of g c))
 
+abbrev before-arg : (g : given.Over) (c : goal.After-turn-arg-in-Some-1 g) → Inner
+before-arg g c = inner_of c.self.inside.engine c.self.inside.calls c.self.inside.abandoned
+
+abbrev after-arg : (g : given.Over) (c : goal.After-turn-arg-in-Some-1 g) → Inner
+after-arg g c = inner_of c.run-count.new.self c.make_room.new.calls c.self.inside.abandoned
+
+none_of-arg : (g : given.Over) (c : goal.After-turn-arg-in-Some-1 g) → c.run-count.new.log.notes ≡ []
+none_of-arg g c =
+    nil_of c.make_room.new.pending.notes c.run-count.new.log.notes c.run-count.result.count (c.make_room.ensures.same ∙ c.self.invariant.none) (let none = c.if-count-gt0.false in omega (arith, none)) c.run-count.ensures.few
+
+same-arg : (g : given.Over) (c : goal.After-turn-arg-in-Some-1 g) → after-arg g c ≡ before-arg g c
+same-arg g c =
+    let live = still c.self.inside.engine c.run-count.new.self c.hart-hart.result c.run-count.result.count c.run-count.new.log.notes (let none = c.if-count-gt0.false in omega (arith, none)) c.run-count.ensures.after (none_of-arg g c)
+    (spares true c.make_room.new.pending.notes c.run-count.new.log.notes (space_of c.self.inside.engine) (space_of c.run-count.new.self) (c.make_room.ensures.same ∙ c.self.invariant.none) c.run-count.ensures.notes) in
+    λ i. record { hart = c.make_room.ensures.hart i; nest = c.make_room.ensures.nest i; live = live i; abandoned = c.self.inside.abandoned }
+
 pub turn-requires-clause-devices : goal.turn-requires-clause-devices
 turn-requires-clause-devices g c =
     let e = told g.S.Source.end g.T.Sink.end g.P.Port.end c.args.devices.now in
-    subst (λ (x : Inner). HasDevices g.K.Origin.devices x e (spare c.args.devices.now)) (sym c.self.view_is ∙ sym (same g c)) c.requires.devices
+    subst (λ (x : Inner). HasDevices g.K.Origin.devices x e (spare c.args.devices.now)) (sym c.self.view_is ∙ sym (same-arg g c)) c.requires.devices
+
+abbrev before-turn : (g : given.Over) (c : goal.After-turn g) → Inner
+before-turn g c = inner_of c.self.inside.engine c.self.inside.calls c.self.inside.abandoned
+
+abbrev after-turn : (g : given.Over) (c : goal.After-turn g) → Inner
+after-turn g c = inner_of c.run-count.new.self c.make_room.new.calls c.self.inside.abandoned
+
+none_of-turn : (g : given.Over) (c : goal.After-turn g) → c.run-count.new.log.notes ≡ []
+none_of-turn g c =
+    nil_of c.make_room.new.pending.notes c.run-count.new.log.notes c.run-count.result.count (c.make_room.ensures.same ∙ c.self.invariant.none) (let none = c.if-count-gt0.false in omega (arith, none)) c.run-count.ensures.few
+
+same-turn : (g : given.Over) (c : goal.After-turn g) → after-turn g c ≡ before-turn g c
+same-turn g c =
+    let live = still c.self.inside.engine c.run-count.new.self c.hart-hart.result c.run-count.result.count c.run-count.new.log.notes (let none = c.if-count-gt0.false in omega (arith, none)) c.run-count.ensures.after (none_of-turn g c)
+    (spares true c.make_room.new.pending.notes c.run-count.new.log.notes (space_of c.self.inside.engine) (space_of c.run-count.new.self) (c.make_room.ensures.same ∙ c.self.invariant.none) c.run-count.ensures.notes) in
+    λ i. record { hart = c.make_room.ensures.hart i; nest = c.make_room.ensures.nest i; live = live i; abandoned = c.self.inside.abandoned }
 
 pub returns-clause-ok : goal.returns-clause-ok
 returns-clause-ok g c =
     let e = told g.S.Source.end g.T.Sink.end g.P.Port.end c.args.devices.now in
     let f = told g.S.Source.end g.T.Sink.end g.P.Port.end c.turn.new.devices in
-    subst (λ (x : Inner). OnOk c.turn.result (Goes g.K.Origin.state x e c.turn.new.self f)) (same g c ∙ c.self.view_is) c.turn.ensures.ok
+    subst (λ (x : Inner). OnOk c.turn.result (Goes g.K.Origin.state x e c.turn.new.self f)) (same-turn g c ∙ c.self.view_is) c.turn.ensures.ok
 
 pub returns-clause-err : goal.returns-clause-err
 returns-clause-err g c =
     let e = told g.S.Source.end g.T.Sink.end g.P.Port.end c.args.devices.now in
     let f = told g.S.Source.end g.T.Sink.end g.P.Port.end c.turn.new.devices in
-    subst (λ (x : Inner). OnErr c.turn.result (IsWanting x e c.turn.new.self f)) (same g c ∙ c.self.view_is) c.turn.ensures.err
+    subst (λ (x : Inner). OnErr c.turn.result (IsWanting x e c.turn.new.self f)) (same-turn g c ∙ c.self.view_is) c.turn.ensures.err

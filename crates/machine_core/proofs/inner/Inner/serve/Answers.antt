@@ -49,7 +49,7 @@ append-requires-clause-notes g c =
     let same = ap (λ (x : Stack). x.notes) c.close_to.ensures.same in
     let fits = few_notes (nat_lt 0 c.depth-noted.result) c.make_room.new.pending.notes c.answer.new.log.notes (space_of c.self.inside.engine) (space_of c.answer.new.self)
     (length c.in_ok-call.call.bytes) c.args.ask.asked c.notes_of.result c.make_room.new.calls.notes
-    (c.make_room.ensures.same ∙ c.self.invariant.none) c.answer.ensures.notes c.answer.ensures.few (short g c) c.notes_of.ensures.some c.in_ok-make_room.ensures.notes in
+    (c.make_room.ensures.same ∙ c.self.invariant.none) c.answer.ensures.notes c.answer.ensures.few (fits_short c.self.inside.engine.state c.args.ask.way c.args.ask.port c.args.ask.asked c.args.ask.place c.in_ok-call.call c.in_ok-call.ensures.fits) c.notes_of.ensures.some c.in_ok-make_room.ensures.notes in
     omega (arith, same, fits)
 
 abbrev w : (g : given.Over) (c : goal.After-append g) → Inner
