@@ -7,3 +7,4 @@ pub mod Asking
 pub mod Ends
 pub mod Opening
 pub mod Fails
+pub mod Steps

@@ -18,6 +18,8 @@ impl<K: Origin> Inner<K> {
         requires legal { IsLegal self.old.live.state (Ended ending) }
         ensures ok { OnOk result ((d : Seen)
             → EndsBy ending (whole_in self.old d) (whole_in self.new d)) }
+        ensures hart { self.new.hart ≡ self.old.hart }
+        ensures records { self.new.live.state.records ≡ self.old.live.state.records }
         ensures none { OnOk result (self.new.nest.outers ≡ []) }
         ensures err { OnErr result (self.new ≡ self.old) }
     {

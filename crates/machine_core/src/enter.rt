@@ -3,6 +3,7 @@ ghost use Rattle.std.specs.Prelude.{◌≡◌, ◌+◌, ◌<◌, false, length, 
 ghost use Rattle.guest_words.specs.Act.{act_of, Arrival};
 ghost use Rattle.guest_words.specs.Endings.{is_budget_spent};
 ghost use Rattle.edge_ports.specs.Seen.{Seen};
+ghost use Rattle.run_history.specs.Ahead.{ahead};
 ghost use Rattle.machine_core.specs.Inner.{whole_in, IsGoing, IsUnderSame};
 ghost use Rattle.machine_core.specs.OpenSteps.{EntersAt};
 
@@ -22,6 +23,9 @@ impl<K: Origin> Inner<K> {
         ensures ok { OnOk result ((d : Seen)
             → EntersAt self.old.hart point (whole_in self.old d) (whole_in self.new d)) }
         ensures under { IsUnderSame self.old self.new }
+        ensures records { self.new.live.state.records ≡ self.old.live.state.records }
+        ensures nearer { OnOk result (ahead self.new.live.state self.old.hart
+            < ahead self.old.live.state self.old.hart) }
         ensures deeper { OnOk result
             (length self.new.nest.outers ≡ length self.old.nest.outers + 1) }
         ensures err { OnErr result (self.new ≡ self.old) }

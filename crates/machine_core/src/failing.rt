@@ -48,14 +48,16 @@ impl<K: Origin> Inner<K> {
 
     /// The fault that the hart is about to make.
     pub(crate) fn fault(&self) -> Option<Fault>
-        requires within { self.now.hart < length self.now.live.state.slots }
+        requires going { IsGoing self.now }
         ensures value { result ≡ fault_of self.now.live.state self.now.hart }
     {
         let hart = self.calls.hart();
-        let NextAct::Fault(name) = self.engine.next_act(hart) else {
-            return None;
+        let Some(now) = self.engine.hart(hart) else {
+            unreachable!();
         };
-        let pc = self.engine.hart(hart)?.pc;
-        Some(Fault { name, pc })
+        match self.engine.next_act(hart) {
+            NextAct::Fault(name) => Some(Fault { name, pc: now.pc }),
+            _ => None,
+        }
     }
 }

@@ -178,3 +178,17 @@ returns-clause-err g c =
     let e = told g.S.Source.end g.T.Sink.end g.P.Port.end c.args.devices.now in
     let f = told g.S.Source.end g.T.Sink.end g.P.Port.end c.turn.new.devices in
     subst (λ (x : Inner). OnErr c.turn.result (IsWanting x e c.turn.new.self f)) (same-turn g c ∙ c.self.view_is) c.turn.ensures.err
+
+pub fail_or_want-requires-clause-going : goal.fail_or_want-requires-clause-going
+fail_or_want-requires-clause-going g c =
+    let same : inner_of c.self.inside.engine c.make_room.new.calls c.self.inside.abandoned ≡ inner_of c.self.inside.engine c.self.inside.calls c.self.inside.abandoned = λ i. record {
+      hart = c.make_room.ensures.hart i;
+      nest = c.make_room.ensures.nest i;
+      live = c.self.inside.engine;
+      abandoned = c.self.inside.abandoned;
+    } in
+    subst IsGoing (sym same) (c.self.invariant.called (subst (λ (x : Inner). 0 < length x.nest.outers) (sym c.self.view_is) c.requires.called))
+
+pub turn-requires-clause-going : goal.turn-requires-clause-going
+turn-requires-clause-going g c =
+    subst IsGoing (sym (same-arg g c)) (c.self.invariant.called (subst (λ (x : Inner). 0 < length x.nest.outers) (sym c.self.view_is) c.requires.called))

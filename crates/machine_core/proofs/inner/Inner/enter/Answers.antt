@@ -10,12 +10,13 @@ use Rattle.guest_words.specs.HartAct.{arrival_of}
 use Rattle.guest_words.specs.Points.{active_at}
 use Rattle.guest_words.specs.State.{State, enter, frame_count, frames_at}
 use Rattle.edge_ports.specs.Seen.{Seen}
+use Rattle.run_history.specs.Ahead.{ahead}
 use Rattle.run_history.proofs.Arrivals.{act_arrives}
 use Rattle.hart_step.specs.Live.{Live}
 use Rattle.open_calls.specs.Nest.{Nest, opened}
 use Rattle.machine_core.specs.Inner.{Inner, IsGoing, inner_of, whole_in}
 use Rattle.machine_core.specs.OpenSteps.{EntersAt}
-use Rattle.machine_core.proofs.Opening.{enters, enters_hold}
+use Rattle.machine_core.proofs.Opening.{entered_records, enters, enters_hold, enters_nearer}
 use Rattle.machine_core.proofs.inner.Inner.enter.Given as given
 use Rattle.machine_core.proofs.inner.Inner.enter.Goals as goal
 
@@ -75,4 +76,15 @@ pub returns-clause-ok : goal.returns-clause-ok
 returns-clause-ok g c =
     subst (λ (x : Inner). (d : Seen) → EntersAt x.hart c.args.point (whole_in x d) (whole_in (v g c) d)) c.self.view_is
     (enters g.K.Origin.state g.K.Origin.devices (w g c) (v g c) c.self.inside.pending c.make_room.new.pending c.self.invariant (going g c) (fresh g c) c.args.point c.in_ok-kept.kept (arrives g c)
+    (live g c) (nest g c) (c.open.ensures.hart ∙ c.make_room.ensures.hart) refl)
+
+pub returns-clause-records : goal.returns-clause-records
+returns-clause-records g c =
+    ap (λ (l : Live). l.state.records) (live g c) ∙ entered_records (w g c).live.state (w g c).hart c.args.point
+    ∙ ap (λ (x : Inner). x.live.state.records) c.self.view_is
+
+pub returns-clause-nearer : goal.returns-clause-nearer
+returns-clause-nearer g c =
+    subst (λ (x : Inner). ahead (v g c).live.state x.hart < ahead x.live.state x.hart) c.self.view_is
+    (enters_nearer g.K.Origin.state g.K.Origin.devices (w g c) (v g c) c.self.inside.pending c.make_room.new.pending c.self.invariant (going g c) (fresh g c) c.args.point c.in_ok-kept.kept (arrives g c)
     (live g c) (nest g c) (c.open.ensures.hart ∙ c.make_room.ensures.hart) refl)

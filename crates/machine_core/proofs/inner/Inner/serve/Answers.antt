@@ -6,12 +6,13 @@ use Rattle.edge_ports.specs.Seen.{Seen, seen as told, spare}
 use Rattle.run_history.specs.declared.entry.Entry.{Entry, Called}
 use Rattle.run_history.proofs.Requests.{fits_short, request_servable}
 use Rattle.run_history.specs.After.{called}
+use Rattle.run_history.specs.Ahead.{ahead}
 use Rattle.hart_step.specs.Live.{space_of}
 use Rattle.open_calls.specs.Nest.{Stack}
 use Rattle.machine_core.specs.Inner.{Inner, IsGoing, IsUnderSame, inner_of, whole_in}
 use Rattle.machine_core.specs.Kept.{HasDevices}
 use Rattle.machine_core.specs.QuietSteps.{CallsOn}
-use Rattle.machine_core.proofs.Asking.{asks, asks_devices, asks_hold, holds_open}
+use Rattle.machine_core.proofs.Asking.{asks, asks_devices, asks_hold, asks_nearer, holds_open}
 use Rattle.machine_core.proofs.Calls.{can_serve}
 use Rattle.machine_core.proofs.Holding.{Puts, puts_under}
 use Rattle.machine_core.proofs.Making.{few_notes, lead, made, some_calls, spares}
@@ -106,3 +107,8 @@ returns-clause-devices g c =
     asks_devices g.K.Origin.state g.K.Origin.devices (w g c) (v g c) c.self.inside.pending c.append.new.log c.self.invariant (going g c) (fresh g c) c.in_ok-call.call (fits_it g c) (to g c) (puts_it g c)
     old e (spare c.args.devices.now) (spare c.call_device.new.devices)
     (subst (λ (x : Inner). HasDevices g.K.Origin.devices x old (spare c.args.devices.now)) (sym c.self.view_is) c.requires.devices) c.in_ok-call.ensures.serves c.call_device.ensures.spare
+
+pub returns-clause-nearer : goal.returns-clause-nearer
+returns-clause-nearer g c =
+    subst (λ (x : Inner). ahead (v g c).live.state x.hart < ahead x.live.state x.hart) c.self.view_is
+    (asks_nearer g.K.Origin.state g.K.Origin.devices (w g c) (v g c) c.self.inside.pending c.append.new.log c.self.invariant (going g c) (fresh g c) c.in_ok-call.call (fits_it g c) (to g c) (puts_it g c))
