@@ -3,11 +3,10 @@ use Rattle.std.specs.Prelude.{◌≡◌, ℕ, ◌≤◌, ◌<◌, Bool, true, fa
 use Rattle.guest_words.specs.declared.ending.Ending.TheVariants as ending
 use Rattle.guest_words.specs.declared.fault.Fault.{Fault as FaultAt}
 use Rattle.guest_words.specs.declared.point.PointRef.{PointRef}
-use Rattle.guest_words.specs.declared.record.Record.{Record}
 use Rattle.guest_words.specs.Act.{StateAct, Ordinary, Fault, Request, Arrival, End, Absent, act_of}
 use Rattle.guest_words.specs.Endings.{is_budget_spent}
 use Rattle.guest_words.specs.State.{State, frames_at}
-use Rattle.run_history.specs.declared.entry.Entry.{Entry, Entered, Called}
+use Rattle.run_history.specs.declared.entry.Entry.{Entry, Entered}
 use Rattle.run_history.specs.declared.entry.Entry.TheViews as entry
 use Rattle.run_history.specs.After.{after, ran, state_after}
 use Rattle.run_history.specs.Faults.{fault_of, pc_at}
@@ -20,8 +19,7 @@ use Rattle.machine_core.specs.declared.machine.Begin.TheVariants as begin
 use Rattle.machine_core.specs.declared.machine.Next.{Next}
 use Rattle.machine_core.specs.declared.machine.Next.TheVariants as next
 use Rattle.machine_core.specs.Machine.{GoesOn, Machine, Opened, history_of, whole}
-use Rattle.machine_core.specs.QuietSteps.{EndsBy, with_entry}
-use Rattle.machine_core.specs.Served.{ServedBy}
+use Rattle.machine_core.specs.QuietSteps.{CallsOn, EndsBy, with_entry}
 
 -- the machine that isn't to go on
 abbrev pub abandoned_of : Machine → Machine
@@ -43,18 +41,6 @@ pub record Acts (a : Opened) (m : Machine) : Type 0 where
     state = ran a.state a.hart count;
   }
 
--- it makes a call on a device
-pub record Asks (a : Opened) (m : Machine) : Type 0 where
-  pub call : Record
-  pub legal : IsLegal a.state (Called a.hart call)
-  pub served : ServedBy call a.devices m.devices
-  pub same : m ≡ record (with_entry (whole a) (Called a.hart call)) { devices = m.devices }
-
--- it enters a further point
-pub record Enters (point : PointRef) (a : Opened) (m : Machine) : Type 0 where
-  pub legal : IsLegal a.state (Entered a.hart point)
-  pub same : m ≡ with_entry (whole a) (Entered a.hart point)
-
 -- the innermost call is taken back: in the whole history one Rescued entry, legal there, stands in
 -- place of its Entered and all behind it, and the state is what this gives
 pub record Erases (start : State) (fault : FaultAt) (a : Opened) (m : Machine) : Type 0 where
@@ -75,6 +61,19 @@ pub record Erases (start : State) (fault : FaultAt) (a : Opened) (m : Machine) :
         history = before ++ e ∷ [];
         state = after (state_after start before) e;
       }
+
+-- a hart enters a point
+pub record EntersAt (h : ℕ) (point : PointRef) (m n : Machine) : Type 0 where
+  pub legal : IsLegal m.state (Entered h point)
+  pub same : n ≡ with_entry m (Entered h point)
+
+-- the hart enters a further point
+abbrev pub Enters : PointRef → Opened → Machine → Type 0
+Enters point a m = EntersAt a.hart point (whole a) m
+
+-- it makes a call on a device
+abbrev pub Asks : Opened → Machine → Type 0
+Asks a m = CallsOn a.hart (whole a) m
 
 -- what a step does, by the act of the hart
 abbrev pub Does : State → Opened → StateAct → Machine → Type 0
@@ -109,8 +108,7 @@ pub record LeavesAll (start : State) (a : Opened) (m : Machine) : Type 0 where
 -- memory was wanting, and no fault was due
 pub record WasWanting (a b : Opened) : Type 0 where
   pub same : b ≡ a
-  pub left : is_budget_spent a.state ≡ false
-  pub faultless : fault_of a.state a.hart ≡ None
+  pub faultless : is_budget_spent a.state ≡ false → fault_of a.state a.hart ≡ None
 
 -- what a step came to
 abbrev pub GoesTo : {K S T P : _} → State → Opened → Next K S T P → Type 0

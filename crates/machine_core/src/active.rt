@@ -1,12 +1,12 @@
 //! Steps of a machine with calls open.
 ghost use Rattle.std.specs.Prelude.{◌≡◌, ◌<◌, length};
 ghost use Rattle.guest_words.specs.State.{frames_at};
+ghost use Rattle.open_calls.specs.Nest.{notes_in};
 ghost use Rattle.machine_core.specs.Machine.{whole, GoesOn};
 ghost use Rattle.machine_core.specs.Nearer.{GoesNearer};
 ghost use Rattle.machine_core.specs.OpenSteps.{abandoned_of, GoesTo};
-ghost use Rattle.open_calls.specs.Nest.{notes_in};
 
-use crate::machine::{Active, Next, Quiet};
+use crate::machine::{Active, Core, Next, Quiet};
 use crate::origin::Origin;
 use edge_ports::{Port, Sink, Source};
 use undo_log::Log;
@@ -15,46 +15,55 @@ impl<K: Origin, S: Source, T: Sink, P: Port> Active<K, S, T, P> {
     /// The hart's next act, or ordinary acts in a row. A fault takes the innermost call back, and
     /// takes no memory.
     pub fn step(self) -> Next<K, S, T, P>
-        requires not_yet { ⊥ }
         ensures goes { GoesTo K.state self result }
         ensures nearer { GoesNearer self result }
     {
-        unreachable!()
+        let Active { mut core } = self;
+        let parts: &mut Core<K, S, T, P> = core.as_mut();
+        if parts.inner.go(&mut parts.devices).is_err() {
+            return Next::Memory(Active { core });
+        }
+        if parts.inner.is_under() {
+            return Next::Active(Active { core });
+        }
+        parts.inner.rest();
+        Next::Quiet(Quiet { core })
     }
 
     /// Lets the run stand as it is, for good.
     pub fn abandon(self) -> Quiet<K, S, T, P>
-        requires not_yet { ⊥ }
         ensures value { result ≡ abandoned_of (whole self) }
     {
-        unreachable!()
+        let Active { mut core } = self;
+        core.as_mut().inner.abandon();
+        Quiet { core }
     }
 
     /// The hart whose calls are open.
     pub fn hart(&self) -> u8
-        requires not_yet { ⊥ }
         ensures value { result ≡ self.now.hart }
         ensures goes { GoesOn self.now }
     {
-        unreachable!()
+        let core: &Core<K, S, T, P> = &self.core;
+        core.inner.hart()
     }
 
     /// How many frames it has open: one for each open call, at least 1.
     pub fn frames(&self) -> usize
-        requires not_yet { ⊥ }
         ensures value { result ≡ length self.now.nest.outers }
         ensures framed { result ≡ frames_at self.now.state self.now.hart }
         ensures some { 0 < result }
     {
-        unreachable!()
+        let core: &Core<K, S, T, P> = &self.core;
+        core.inner.depth()
     }
 
     /// The notes of a frame's call up to the entering of the next, the outermost frame being 0.
     pub fn log(&self, frame: usize) -> &Log
-        requires not_yet { ⊥ }
         requires open { frame < length self.now.nest.outers }
         ensures notes { result.now.notes ≡ notes_in frame self.now.nest }
     {
-        unreachable!()
+        let core: &Core<K, S, T, P> = &self.core;
+        core.inner.log(frame)
     }
 }

@@ -3,13 +3,22 @@
 #![tactic(auto)]
 
 mod active;
+mod begin;
+mod ending;
+mod enter;
+mod failing;
+mod held;
 mod inner;
 mod limits;
 mod machine;
 mod origin;
 mod quiet;
 mod readers;
+mod room;
+mod serve;
 mod stepped;
+mod turns;
+mod under;
 
 pub use limits::{Limits, Mode};
 pub use machine::{Active, Begin, Next, Quiet};

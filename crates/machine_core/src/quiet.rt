@@ -15,8 +15,9 @@ ghost use Rattle.machine_core.specs.Nearer.{BeginsNearer};
 ghost use Rattle.machine_core.specs.OpenSteps.{abandoned_of, Begins};
 ghost use Rattle.machine_core.specs.QuietSteps.{stepped_of, HasArrived, IsBusy, Steps};
 
+use crate::inner::Inner;
 use crate::limits::{Limits, Mode};
-use crate::machine::{Begin, Quiet};
+use crate::machine::{Active, Begin, Core, Quiet};
 use crate::origin::Origin;
 use crate::stepped::Stepped;
 use edge_ports::{Devices, Port, Sink, Source};
@@ -35,7 +36,6 @@ impl<K: Origin, S: Source, T: Sink, P: Port> Quiet<K, S, T, P> {
         limits: Limits,
         devices: Devices<S, T, P>,
     ) -> Result<Quiet<K, S, T, P>, Devices<S, T, P>>
-        requires not_yet { ⊥ }
         requires image { IsLoadList image.now.loads }
         requires harts { (1 ≤ limits.harts) × (limits.harts ≤ HARTS) }
         requires budget { (1 ≤ limits.budget) × (limits.budget ≤ BUDGET) }
@@ -53,7 +53,23 @@ impl<K: Origin, S: Source, T: Sink, P: Port> Quiet<K, S, T, P> {
         ensures same { IfErr result (λ back.
             told S.end T.end P.end back ≡ told S.end T.end P.end devices) }
     {
-        unreachable!()
+        let mut devices = devices;
+        if devices.ready().is_err() {
+            return Err(devices);
+        }
+        let Limits { harts, budget } = limits;
+        let ports = devices.ports.len() as u64;
+        let inner = match Inner::start(alloc, image, points, harts, ports, budget) {
+            Ok(inner) => inner,
+            Err(_) => return Err(devices),
+        };
+        match Box::new(alloc, Core { inner, devices }) {
+            Ok(core) => Ok(Quiet { core }),
+            Err(failed) => {
+                let Core { devices, .. } = failed.value;
+                Err(devices)
+            }
+        }
     }
 
     /// One step of a hart: as many ordinary acts in a row as it can make, at most `quantum` of
@@ -62,7 +78,6 @@ impl<K: Origin, S: Source, T: Sink, P: Port> Quiet<K, S, T, P> {
     ///
     /// `quantum` is 1 to 4,096. After an Err all is as before, the devices too.
     pub fn step(&mut self, hart: u8, quantum: u32) -> Result<Stepped, MemoryWant>
-        requires not_yet { ⊥ }
         requires going { self.old.state.ending ≡ None }
         requires kept { self.old.abandoned ≡ false }
         requires hart { hart < length K.state.slots }
@@ -74,12 +89,13 @@ impl<K: Origin, S: Source, T: Sink, P: Port> Quiet<K, S, T, P> {
         ensures busy { any_other is_live hart K.state.slots ≡ false → IfOk result IsBusy }
         ensures err { OnErr result (self.new ≡ self.old) }
     {
-        unreachable!()
+        let core: &mut Core<K, S, T, P> = self.core.as_mut();
+        core.inner.turn_to(hart);
+        core.inner.step(&mut core.devices, quantum)
     }
 
     /// Opens the call of the point at which a hart stands, in a run that one thread drives.
     pub fn begin_lone(self, hart: u8) -> Begin<K, S, T, P>
-        requires not_yet { ⊥ }
         requires lone { K.mode ≡ Mode.Lone }
         requires going { self.state.ending ≡ None }
         requires kept { self.abandoned ≡ false }
@@ -89,22 +105,25 @@ impl<K: Origin, S: Source, T: Sink, P: Port> Quiet<K, S, T, P> {
             → Begins hart point self result }
         ensures nearer { BeginsNearer self.state hart result }
     {
-        unreachable!()
+        let Quiet { mut core } = self;
+        core.as_mut().inner.turn_to(hart);
+        match core.as_mut().inner.begin() {
+            Ok(()) => Begin::Active(Active { core }),
+            Err(_) => Begin::Memory(Quiet { core }),
+        }
     }
 
     /// Lets the run stand as it is, for good.
     pub fn abandon(&mut self)
-        requires not_yet { ⊥ }
         requires going { self.old.state.ending ≡ None }
         ensures value { self.new ≡ abandoned_of self.old }
     {
-        unreachable!()
+        self.core.as_mut().inner.abandon();
     }
 
     /// What has happened, the points at its end, each with what is left of its rescues, and the
     /// devices. Takes no memory.
     pub fn into_parts(self) -> (History, Points, Devices<S, T, P>)
-        requires not_yet { ⊥ }
         ensures history { result.0.entries ≡ self.history }
         ensures points { result.1 ≡ self.state.points }
         ensures devices { told S.end T.end P.end result.2 ≡ self.devices }
@@ -113,6 +132,9 @@ impl<K: Origin, S: Source, T: Sink, P: Port> Quiet<K, S, T, P> {
         ensures matches { DevicesMatch K.devices (told S.end T.end P.end result.2) 0
             (records_of_all result.0.entries) }
     {
-        unreachable!()
+        let Quiet { core } = self;
+        let Core { inner, devices } = Box::into_inner(core);
+        let (history, points) = inner.into_parts();
+        (history, points, devices)
     }
 }

@@ -1,0 +1,10 @@
+pub mod Calls
+pub mod Gone
+pub mod Nesting
+pub mod Holding
+pub mod Making
+pub mod Asking
+pub mod Ends
+pub mod Opening
+pub mod Fails
+pub mod Steps
