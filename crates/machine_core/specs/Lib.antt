@@ -1,7 +1,6 @@
-pub mod ComesTo
+pub mod Inner
 pub mod Machine
 pub mod Nearer
 pub mod OpenSteps
-pub mod Parts
 pub mod QuietSteps
 pub mod Served

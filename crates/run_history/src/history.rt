@@ -1,5 +1,7 @@
 ghost use Rattle.std.specs.Prelude.{◌≡◌, ◌+◌, ◌<◌, ◌≤◌, [], ◌∷◌, ◌++◌, length, IsTrue, OnOk};
 ghost use Rattle.run_history.specs.LastEntry.{can_lengthen, longer, ends_in_ran, lengthened};
+ghost use Rattle.run_history.specs.LastEntry.{can_lengthen_by, longer_by, ends_in_ran_of};
+ghost use Rattle.run_history.specs.LastEntry.{lengthened_by, with_acts};
 
 use crate::entry::Entry;
 use guest_words::MemoryWant;
@@ -74,6 +76,31 @@ impl History {
         }
     }
 
+    /// Puts so many acts of a hart last: the last entry is made longer where it can be.
+    pub fn put_acts(&mut self, hart: u8, count: u32)
+        requires some { 1 ≤ count }
+        requires room { 0 < self.old.spare }
+        ensures entries { self.new.entries ≡ with_acts hart count self.old.entries }
+        ensures room { self.old.spare ≤ self.new.spare + 1 }
+    {
+        if ends_in_ran_of(self.items(), hart, count) {
+            self.lengthen_by(hart, count);
+        } else {
+            self.push(Entry::Ran { hart, count });
+        }
+    }
+
+    fn lengthen_by(&mut self, hart: u8, count: u32)
+        requires last { IsTrue (ends_in_ran_of hart count self.old.entries) }
+        ensures entries { self.new.entries ≡ lengthened_by count self.old.entries }
+        ensures room { self.new.spare ≡ self.old.spare }
+    {
+        match self.entries.pop() {
+            Some(last) => self.entries.push_reserved(longer_by(last, hart, count)),
+            None => {}
+        }
+    }
+
     /// Puts these entries behind those of another history.
     pub fn join_onto(self, outer: &mut History)
         requires room { length self.entries ≤ outer.old.spare }
@@ -105,5 +132,39 @@ fn longer(entry: Entry) -> Entry
             count: count + 1,
         },
         other => other,
+    }
+}
+
+fn longer_by(entry: Entry, hart: u8, more: u32) -> Entry
+    requires ran { IsTrue (can_lengthen_by hart more entry) }
+    ensures value { result ≡ longer_by more entry }
+{
+    match entry {
+        Entry::Ran { hart, count } => Entry::Ran {
+            hart,
+            count: count + more,
+        },
+        other => other,
+    }
+}
+
+fn ends_in_ran_of(entries: &[Entry], hart: u8, more: u32) -> bool
+    ensures value { result ≡ ends_in_ran_of hart more entries.now }
+{
+    match entries.last() {
+        Some(last) => can_lengthen_by(last, hart, more),
+        None => false,
+    }
+}
+
+fn can_lengthen_by(entry: &Entry, hart: u8, more: u32) -> bool
+    ensures value { result ≡ can_lengthen_by hart more entry.now }
+{
+    match entry {
+        Entry::Ran { hart: other, count } => *other == hart && *count <= u32::MAX - more,
+        Entry::Entered { .. } => false,
+        Entry::Called { .. } => false,
+        Entry::Rescued { .. } => false,
+        Entry::Ended { .. } => false,
     }
 }

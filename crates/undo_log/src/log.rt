@@ -115,8 +115,20 @@ impl Log {
         ensures notes { outer.new.notes ≡ outer.old.notes ++ self.notes }
         ensures room { outer.old.spare ≤ outer.new.spare + length self.notes }
     {
-        let Log { mut notes } = self;
-        match outer.notes.append(&mut notes) {
+        let mut log = self;
+        log.move_onto(outer);
+    }
+
+    /// Puts these notes behind those of another log, and keeps the room that they had. Takes no
+    /// memory.
+    pub fn move_onto(&mut self, outer: &mut Log)
+        requires room { length self.old.notes ≤ outer.old.spare }
+        ensures notes { outer.new.notes ≡ outer.old.notes ++ self.old.notes }
+        ensures none { self.new.notes ≡ [] }
+        ensures kept { self.old.spare + length self.old.notes ≤ self.new.spare }
+        ensures room { outer.old.spare ≤ outer.new.spare + length self.old.notes }
+    {
+        match outer.notes.append(&mut self.notes) {
             Ok(()) => {}
             Err(_) => unreachable!(),
         }

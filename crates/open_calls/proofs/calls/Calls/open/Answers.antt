@@ -1,0 +1,35 @@
+use Rattle.std.proofs.Common.{◌<◌, ◌++◌, ◌∷◌, [], length, ap, sym, ◌∙◌, subst, arith}
+use Rattle.open_calls.specs.declared.part.Part.{Part}
+use Rattle.open_calls.specs.declared.outer.Outer.{Outer}
+use Rattle.open_calls.specs.Nest.{Stack, opened}
+use Rattle.open_calls.specs.Rooms.{turned, Rooms, nest_of}
+use Rattle.open_calls.proofs.Filling.{depth, open_rooms, opened_nest}
+use Rattle.open_calls.proofs.calls.Calls.open.Goals as goal
+
+pub push_reserved-requires : goal.push_reserved-requires
+push_reserved-requires c =
+    let few = c.requires.few in
+    let v = ap (λ (s : Stack). length s.nest.outers) c.self.view_is in
+    let d = depth c.self.inside.outers.items in
+    let whole = c.self.inside.outers.ok.0 in
+    let places = c.self.invariant.1 in
+    omega (arith, few, v, d, whole, places)
+
+pub invariant_of-self : goal.invariant_of-self
+invariant_of-self c =
+    let o : Outer = record { part = c.replace-part.result; point = c.args.point; kept = c.args.kept } in
+    let acts = subst (λ (s : Stack). 0 < s.acts) (sym c.self.view_is) c.requires.acts in
+    let places = c.self.invariant.1 in
+    let capacity = c.push_reserved.ensures.capacity in (
+      subst (λ os. Rooms 0 0 c.replace-part.new.dest (turned os)) (sym c.push_reserved.ensures.items)
+          (subst (λ (p : Part). Rooms 0 0 p (turned (c.self.inside.outers.items ++ o ∷ []))) (sym c.replace-part.ensures.after)
+          (open_rooms c.self.inside.acts c.self.inside.notes c.self.inside.top c.args.part o c.self.inside.outers.items c.self.invariant.0 acts c.replace-part.ensures.value c.requires.fresh)),
+      omega (arith, places, capacity),
+    )
+
+pub returns-clause-nest : goal.returns-clause-nest
+returns-clause-nest c =
+    let o : Outer = record { part = c.replace-part.result; point = c.args.point; kept = c.args.kept } in
+    ap (λ (p : Part). nest_of p c.push_reserved.new.self.items) c.replace-part.ensures.after
+    ∙ opened_nest c.self.inside.top c.args.part o c.self.inside.outers.items c.push_reserved.new.self.items c.push_reserved.ensures.items c.replace-part.ensures.value c.requires.fresh
+    ∙ ap (λ (s : Stack). opened c.args.point c.args.kept s.nest) c.self.view_is
