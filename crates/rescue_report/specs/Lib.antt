@@ -2,3 +2,5 @@ pub mod Numbers
 pub mod Lines
 pub mod Rescues
 pub mod Report
+pub mod List
+pub mod Summary

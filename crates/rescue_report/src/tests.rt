@@ -1,5 +1,6 @@
-use crate::report_text;
-use guest_words::{Ending, Fault, FaultName, Kind, MemoryWant, Point, PointRef, Points, Ret};
+use crate::{list_text, report_text};
+use elf_symbols::{Symbol, Symbols};
+use guest_words::{Ending, Fault, FaultName, Kind, MemoryWant, Name, Point, PointRef, Points, Ret};
 use run_history::{Entry, History};
 use sqlite_items::Items;
 use std::alloc::Global;
@@ -67,5 +68,25 @@ fn load_across_pages(rt: HostRuntime) -> Result<(), Fail> {
     let text = report_text(alloc, &history, &one_point(alloc)?, &ending)?;
     let last = "\nend fault load-rights hart 0 pc 0000000000010004\n";
     assert!(rt; text.items().ends_with(last.as_bytes()));
+    Ok(())
+}
+
+fn symbol(alloc: Global, value: u64, size: u64, name: &str) -> Result<Symbol, MemoryWant> {
+    Ok(Symbol {
+        value,
+        size,
+        name: Name::of(String::from_str(alloc, name)?),
+    })
+}
+
+#[test]
+fn two_symbols(rt: HostRuntime) -> Result<(), Fail> {
+    let alloc = rt.alloc();
+    let mut items = Vec::new(alloc);
+    items.push(symbol(alloc, 0x100b0, 36, "handle")?)?;
+    items.push(symbol(alloc, 0x10000, 0, "_start")?)?;
+    let text = list_text(alloc, &Symbols::of(items))?;
+    let lines = "0000000000010000 0 _start\n00000000000100b0 36 handle\n";
+    assert!(rt; text.items() == lines.as_bytes());
     Ok(())
 }

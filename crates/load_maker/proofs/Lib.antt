@@ -1,0 +1,4 @@
+pub mod Placed
+pub mod Rows
+pub mod Words
+pub mod WordsLaws

@@ -1,0 +1,4 @@
+pub mod Encoding
+pub mod File
+pub mod Input
+pub mod Program
