@@ -1,5 +1,5 @@
 -- The run of a load.
-use Rattle.std.proofs.Common.{◌≡◌, ℕ, List, [], ◌∷◌, ◌++◌, drop, Option, Some, None, refl, ap, sym, ◌∙◌, subst}
+use Rattle.std.proofs.Common.{◌≡◌, ◌⊎◌, ℕ, List, [], ◌∷◌, ◌++◌, length, drop, Option, Some, None, refl, ap, sym, ◌∙◌, subst}
 use Rattle.std.specs.Prelude.{unwrap_or}
 use Rattle.std.specs.List.{flat_map}
 use Rattle.edge_ports.specs.DevicesMatch.{records_at, DevicesMatch}
@@ -17,6 +17,8 @@ use Rattle.rescue_run.specs.declared.task.LoadTask.{LoadTask}
 use Rattle.rescue_run.specs.Load.{load_devices, load_summary, out_of, IsLoadTo, IsSure}
 use Rattle.rescue_run.specs.Puts.{PutsText, ReportsRun}
 use Rattle.rescue_run.specs.Runs.{outcome_of, start_of_run, IsRunTo}
+use Rattle.rescue_report.specs.Summary.{summary_of}
+use Rattle.rescue_run.proofs.Coming.{losing}
 use Rattle.rescue_run.proofs.Putting.{told_of}
 
 -- what was put is by an ending, if it has one
@@ -70,3 +72,30 @@ out_given input devices entries given matches told =
     let records : List Record = records_of_all entries in
     let came : Some given ≡ Some (flat_map given_bytes (records_at 1 (drop 0 records))) = sym told ∙ (matches.ends 1).given in
     ap (λ o. unwrap_or o given) came ∙ ap (λ (rs : List Record). flat_map given_bytes (records_at 1 rs)) (drop_none records)
+
+-- a load's run, from what the run of its start gives on its devices
+pub load_ran : (load : LoadTask) (before now : Seen) (count : ℕ) (entries : List Entry) (points : List Point) (a b : Option Ending)
+    → before ≡ load_devices load.input → count ≡ 0 → IsRunTo (start_of_run load.start count) load.start.seed entries points (outcome_of a)
+    → DevicesMatch before now 0 (records_of_all entries) → (b ≡ a) ⊎ (b ≡ None) → IsSure entries (outcome_of b)
+    → IsLoadTo load entries points (outcome_of b)
+load_ran load before now count entries points a b own none run matches ending sure = record {
+  runs = losing (start_of_run load.start 0) load.start.seed entries points a b ending
+      (subst (λ n. IsRunTo (start_of_run load.start n) load.start.seed entries points (outcome_of a)) none run);
+  devices = now;
+  matches = subst (λ (d : Seen). DevicesMatch d now 0 (records_of_all entries)) own matches;
+  sure = sure;
+}
+
+pub load_out : (input : List ℕ) (before now : Seen) (entries : List Entry) (given : List ℕ) → before ≡ load_devices input
+    → DevicesMatch before now 0 (records_of_all entries) → now.out.given ≡ Some given → given ≡ out_of entries
+load_out input before now entries given own matches told =
+    out_given input now entries given (subst (λ (d : Seen). DevicesMatch d now 0 (records_of_all entries)) own matches) told
+
+-- the summary of a load, by what it was put together from
+pub puts_load : (load : LoadTask) (entries : List Entry) (points : List Point) (ending : Option Ending) (outcome : Outcome) (old new : End)
+    (number bytes : ℕ) (out : List ℕ) → number ≡ load.number → bytes ≡ length load.input → out ≡ out_of entries
+    → PutsText (summary_of number bytes out entries) ending outcome old new → PutsText (load_summary load entries points) ending outcome old new
+puts_load load entries points ending outcome old new number bytes out a b c puts =
+    subst (λ o. PutsText (summary_of load.number (length load.input) o entries) ending outcome old new) c
+    (subst (λ n. PutsText (summary_of load.number n out entries) ending outcome old new) b
+    (subst (λ n. PutsText (summary_of n bytes out entries) ending outcome old new) a puts))

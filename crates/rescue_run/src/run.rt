@@ -70,8 +70,8 @@ fn run_from<K: Origin, S: Source, T: Sink, P: Port>(
     })
 }
 
-/// Runs what was loaded, on one thread by the words of the seed, until it ends or memory is wanting.
-/// An Err has the devices as they were: memory was wanting before a machine was started.
+/// Runs what was loaded, on one thread by the words of the seed, until it ends or memory is
+/// wanting. An Err has the devices as they were: memory was wanting before a machine was started.
 pub fn run<S: Source, T: Sink, P: Port>(
     alloc: Global,
     start: &Start,

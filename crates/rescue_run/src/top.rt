@@ -80,9 +80,9 @@ fn run_command<F: Shelf, S: Source, T: Sink, P: Port, R: Sink>(
 /// Does what the words of a command ask for: runs a program to its end, and puts the report; lists
 /// the symbols of a program; or runs a load on devices of its own, and puts its summary.
 ///
-/// Where nothing is done, or a run doesn't end, the report sink is given one line instead. A failure
-/// of that put changes nothing in the answer. `ports` are the devices from descriptor 3 on, as many
-/// as the words name.
+/// Where nothing is done, or a run doesn't end, the report sink is given one line instead. A
+/// failure of that put changes nothing in the answer. `ports` are the devices from descriptor 3 on,
+/// as many as the words name.
 pub fn alone_top<F: Shelf, S: Source, T: Sink, R: Sink>(
     alloc: Global,
     words: &[String],

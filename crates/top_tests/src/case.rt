@@ -6,9 +6,9 @@ use std::alloc::{AllocError, Global};
 
 pub type Over = Answer<MemorySource, MemorySink>;
 
-/// What is run: the words of the program, its data, its rescue file and its input; the harts and the
-/// budget that are asked for; whether a port is named and handed in; and the numbers of the calls of
-/// its output, of its port and of its report that are to fail.
+/// What is run: the words of the program, its data, its rescue file and its input; the harts and
+/// the budget that are asked for; whether a port is named and handed in; and the numbers of the
+/// calls of its output, of its port and of its report that are to fail.
 #[derive(Clone, Copy)]
 pub struct Case<'a> {
     pub words: &'a [u32],

@@ -24,13 +24,28 @@ fn shelf(alloc: Global) -> Result<MemoryShelf, AllocError> {
 fn list_and_load(rt: HostRuntime) -> Result<(), Fail> {
     let alloc = rt.alloc();
     let mut shelf = shelf(alloc)?;
-    let listed = run_on(alloc, &list(alloc, &["list", "p"])?, &mut shelf, &Case::of(&[]))?;
+    let listed = run_on(
+        alloc,
+        &list(alloc, &["list", "p"])?,
+        &mut shelf,
+        &Case::of(&[]),
+    )?;
     assert_eq!(rt; listed.answer.status, 0);
     assert!(rt; listed.answer.history.is_none());
     assert!(rt; listed.report.given().is_empty());
-    let loaded = run_on(alloc, &list(alloc, &["load", "1"])?, &mut shelf, &Case::of(&[]))?;
+    let loaded = run_on(
+        alloc,
+        &list(alloc, &["load", "1"])?,
+        &mut shelf,
+        &Case::of(&[]),
+    )?;
     assert_eq!(rt; loaded.answer.status, 0);
-    assert!(rt; loaded.report.given().starts_with(b"load 1\nbytes 1000\nsum "));
+    assert!(rt;
+        loaded
+            .report
+            .given()
+            .starts_with(b"load 1\nbytes 1000\nsum ")
+    );
     assert!(rt; loaded.report.given().ends_with(b"\nend exit 0\n"));
     Ok(())
 }

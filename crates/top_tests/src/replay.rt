@@ -11,8 +11,8 @@ use rescue_config::read_points;
 use run_history::Entry;
 use std::alloc::{AllocError, Global};
 
-/// How a replay starts: with the points of a rescue file, of which an empty one names none, and with
-/// so many harts, ports and steps.
+/// How a replay starts: with the points of a rescue file, of which an empty one names none, and
+/// with so many harts, ports and steps.
 #[derive(Clone, Copy)]
 pub struct ReplayStart<'a> {
     pub points: &'a str,

@@ -15,5 +15,5 @@ returns-clause-run g c =
       last = last.ensures.points ∙ ap (λ (s : State). s.points) last.ensures.reaches;
       explains = explains g.K.Origin.state last.result.0.entries _ last.ensures.run
           (ap (λ (s : State). s.ending) c.requires.state)
-          (sym (c.ending.ensures.value ∙ ap (λ (s : State). s.ending) last.ensures.reaches));
+          (sym (c.ending-ending.ensures.value ∙ ap (λ (s : State). s.ending) last.ensures.reaches));
     }
