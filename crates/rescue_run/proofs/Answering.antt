@@ -1,5 +1,5 @@
 -- What is answered, by what was prepared and how a run came to its end.
-use Rattle.std.proofs.Common.{◌≡◌, ◌⊎◌, inl, inr, ℕ, List, [], ◌∷◌, ◌++◌, length, false, Option, Some, None, Result, Ok, Err, is_err, refl, ap, sym, ◌∙◌, subst}
+use Rattle.std.proofs.Common.{◌≡◌, inl, inr, ℕ, List, length, false, Option, Some, None, Result, Ok, Err, is_err, refl, ap, sym, ◌∙◌, subst}
 use Rattle.std.specs.Prelude.{unwrap_or}
 use Rattle.std.specs.Result.{result_err}
 use Rattle.std.proofs.lemmas.Bool.{both_ways}

@@ -31,7 +31,7 @@ use Rattle.rescue_run.specs.Loading.{later_loads, points_load_if, Answers, Read}
 use Rattle.rescue_run.specs.Prepares.{AreAnswersFor, ListsFile, Prepares, PreparesCommand, PreparesCounted, StartsFiles}
 use Rattle.rescue_run.specs.Reads.{AreAnswers, IsAskedFor, IsOrMemory}
 use Rattle.rescue_run.specs.ReadsFiles.{ReadsFiles, ReadsSymbols}
-use Rattle.rescue_run.specs.Words.{files_of, loads_by, loads_by_files, loads_for, loads_read, needs_threads, ports_named, run_with, task_by, task_for, task_read, list_with}
+use Rattle.rescue_run.specs.Words.{files_of, loads_by, loads_by_files, loads_for, loads_read, needs_threads, ports_named, run_with, task_by, task_read, list_with}
 use Rattle.rescue_run.proofs.Shelving.{answer_among, follows_same, none_answered, no_answers, take_none}
 
 -- an answer that a function takes over

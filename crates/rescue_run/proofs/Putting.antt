@@ -1,5 +1,5 @@
 -- What the report sink was given, by what its put came to.
-use Rattle.std.proofs.Common.{◌≡◌, ◌⊎◌, inl, inr, ℕ, List, Option, Some, None, refl, ap, sym, ◌∙◌, subst}
+use Rattle.std.proofs.Common.{◌≡◌, ℕ, List, Option, Some, None, sym, subst}
 use Rattle.guest_words.specs.declared.ending.Ending.{Ending}
 use Rattle.guest_words.specs.declared.point.Point.{Point}
 use Rattle.guest_words.specs.State.{State}
@@ -9,7 +9,7 @@ use Rattle.run_history.specs.Run.{EndsOnce}
 use Rattle.rescue_run.specs.declared.outcome.Outcome.{Outcome}
 use Rattle.rescue_run.specs.declared.outcome.Outcome.TheVariants.{Words, PortCount, Shelf, TooLong, Elf, Symbols, Points, Report, Ended, Listed, Memory}
 use Rattle.rescue_run.specs.Puts.{PutsText, ReportsRun}
-use Rattle.rescue_run.specs.Runs.{outcome_of, Explains, IsRunTo}
+use Rattle.rescue_run.specs.Runs.{outcome_of, IsRunTo}
 use Rattle.rescue_run.proofs.Coming.{with_outcome}
 
 -- the put of bytes that are the text of the ending

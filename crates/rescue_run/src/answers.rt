@@ -1,12 +1,12 @@
 //! What each kind of command is answered.
-ghost use Rattle.std.specs.Prelude.{◌≡◌, None, Some, length};
+ghost use Rattle.std.specs.Prelude.{◌≡◌, None, Some};
 ghost use Rattle.edge_ports.specs.Seen.{seen};
 ghost use Rattle.machine_core.specs.Machine.{AllOpen};
 ghost use Rattle.rescue_report.specs.Report.{report_of};
 ghost use Rattle.rescue_report.specs.Summary.{summary_of};
 ghost use Rattle.rescue_run.specs.Headline.{IsListing, IsLoadRun, IsRunOn};
 ghost use Rattle.rescue_run.specs.Lines.{line_of};
-ghost use Rattle.rescue_run.specs.Puts.{IsSaid, IsTold, PutsList, PutsText};
+ghost use Rattle.rescue_run.specs.Puts.{IsSaid, IsTold, PutsText};
 ghost use Rattle.rescue_run.specs.Statuses.{status_of};
 ghost use Rattle.rescue_run.specs.Tasks.{CanRun};
 ghost use Rattle.rescue_run.specs.Top.{told, StaySame};
@@ -156,7 +156,15 @@ fn answer_of_load<S, T, P, R: Sink>(
         devices: own,
         ending,
     } = ran;
-    let outcome = put_summary(alloc, report, number, bytes, own.out.given(), &history, ending);
+    let outcome = put_summary(
+        alloc,
+        report,
+        number,
+        bytes,
+        own.out.given(),
+        &history,
+        ending,
+    );
     Answer {
         status: outcome.status(),
         outcome,

@@ -1,4 +1,4 @@
-ghost use Rattle.std.specs.Prelude.{◌≡◌, ◌≤◌, IfOk};
+ghost use Rattle.std.specs.Prelude.{◌≡◌, IfOk};
 ghost use Rattle.program_words.specs.Ranges.{IsInRange};
 ghost use Rattle.program_words.specs.Words.{texts};
 ghost use Rattle.rescue_run.specs.Outcomes.{of_words_fault};
@@ -68,11 +68,7 @@ fn prepare_run<F: Shelf>(
 }
 
 /// The list of the symbols of a program.
-fn prepare_list<F: Shelf>(
-    alloc: Global,
-    program: Name,
-    shelf: &mut F,
-) -> Result<Task, Outcome>
+fn prepare_list<F: Shelf>(alloc: Global, program: Name, shelf: &mut F) -> Result<Task, Outcome>
     ensures lists { ListsFile program (F.seen shelf.old) (F.seen shelf.new) result }
     ensures can { IfOk result CanStart }
     ensures follows { Follows (F.seen shelf.old) (F.seen shelf.new) }

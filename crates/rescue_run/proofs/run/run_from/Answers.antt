@@ -1,4 +1,4 @@
-use Rattle.std.proofs.Common.{◌≡◌, ap, sym, ◌∙◌, subst}
+use Rattle.std.proofs.Common.{ap, sym, ◌∙◌}
 use Rattle.guest_words.specs.State.{State}
 use Rattle.machine_core.specs.Machine.{Machine}
 use Rattle.rescue_run.proofs.Coming.{explains, lone_whole}
