@@ -1,6 +1,6 @@
 -- A step of open calls keeps to the rules of a turn, or takes back the call with which it began.
-use Rattle.std.proofs.Common.{◌≡◌, ◌⊎◌, inl, inr, ℕ, ◌+◌, ◌^◌, ◌<◌, ◌≤◌, Bool, true, false, not, ◌||◌, ◌&&◌, ◌==◌, List, [], ◌∷◌, ◌++◌, Option, Some, None, refl, ap, sym, ◌∙◌, subst, arith, eq-eqb}
-use Rattle.std.proofs.lemmas.Bool.{and_from}
+use Rattle.std.proofs.Common.{◌≡◌, ◌⊎◌, inl, inr, ℕ, ◌+◌, ◌<◌, ◌≤◌, Bool, true, false, ◌||◌, List, [], ◌∷◌, ◌++◌, Option, Some, None, refl, ap, sym, ◌∙◌, subst, arith, eq-eqb}
+use Rattle.std.proofs.lemmas.Bool.{and_from, not-true}
 use Rattle.std.proofs.lemmas.List.{append_assoc, append_cancel_left, append-nil}
 use Rattle.guest_words.specs.declared.ending.Ending.{Ending}
 use Rattle.guest_words.specs.declared.ending.Ending.TheVariants as ending
@@ -9,25 +9,24 @@ use Rattle.guest_words.specs.declared.point.PointRef.{PointRef}
 use Rattle.guest_words.specs.declared.record.Record.{Record}
 use Rattle.guest_words.specs.Act.{StateAct, Ordinary, Fault, Request, Arrival, End, Absent, act_of}
 use Rattle.guest_words.specs.Endings.{is_budget_spent}
-use Rattle.guest_words.specs.State.{State, enter, frames_at}
+use Rattle.guest_words.specs.State.{State, enter}
 use Rattle.run_history.specs.declared.entry.Entry.{Entry, Entered, Called, Ended}
 use Rattle.run_history.specs.declared.entry.Entry.TheViews as v
 use Rattle.run_history.specs.After.{after, ran, state_after}
 use Rattle.run_history.specs.Counts.{steps_of, steps_of_all}
 use Rattle.run_history.specs.LastEntry.{with_acts, with_ran}
-use Rattle.run_history.specs.Legal.{can_go, is_ready_at, legal, may_act}
+use Rattle.run_history.specs.Legal.{legal}
 use Rattle.run_history.specs.Run.{is_run}
-use Rattle.run_history.proofs.Ands.{and_left, and_right}
+use Rattle.run_history.proofs.Ands.{and_left}
 use Rattle.run_history.proofs.Appends.{is_run-append, is_run-push, state_after-append, state_after-push}
-use Rattle.run_history.proofs.Entries.{after-Ended, after-Entered, goes-first, not-is}
+use Rattle.run_history.proofs.Entries.{after-Ended, after-Entered, goes-first}
 use Rattle.run_history.proofs.Insides.{steps_of-Rescued}
 use Rattle.run_history.proofs.Kept.{state_after_budget}
 use Rattle.run_history.proofs.LastEntries.{with_acts-some}
 use Rattle.run_history.proofs.OneMore.{runs-acts}
 use Rattle.run_history.proofs.StepsAfter.{ran_steps, ran_within, steps_after_run, within_run}
 use Rattle.run_history.proofs.Under.{may_under}
-use Rattle.open_calls.specs.Nest.{lowest}
-use Rattle.machine_core.specs.Machine.{GoesOn, Machine, Opened, history_of, whole}
+use Rattle.machine_core.specs.Machine.{Machine, Opened, history_of, whole}
 use Rattle.machine_core.specs.OpenSteps.{Acts, Asks, DoesBy, Does, Enters, Erases, StepsTo}
 use Rattle.machine_core.specs.QuietSteps.{EndsBy}
 use Rattle.lone_schedule.specs.Drives.{InTurn, IsCalling}
@@ -87,16 +86,16 @@ no_more : {A : Type 0} (x : Ending) → ◌≡◌ {A = Option Ending} (Some x) N
 no_more x e = absurd (cc e)
 
 module _ (start : State) (a : Opened) (c : IsCalling start a) where
-  h : ℕ
+  abbrev h : ℕ
   h = a.hart
 
-  s : State
+  abbrev s : State
   s = c.from.state
 
-  p : PointRef
+  abbrev p : PointRef
   p = c.turn.point
 
-  u : State
+  abbrev u : State
   u = enter s h p
 
   open_now : is_over (state_after u c.turn.rest) ≡ false
@@ -182,7 +181,7 @@ module _ (start : State) (a : Opened) (c : IsCalling start a) where
       let positive : 0 < n = omega (arith, some) in
       let framed = c.goes.framed in
       let open_one = c.goes.some in
-      let fresh : is_budget_spent a.state ≡ false = not-is _ (and_left _ _ (and_left _ _ (goes-first a.state h n positive acted.goes))) in
+      let fresh : is_budget_spent a.state ≡ false = not-true _ (and_left _ _ (and_left _ _ (goes-first a.state h n positive acted.goes))) in
       let more = runs-acts u h n rest a.state (record { runs = c.turn.runs; reaches = c.turn.reaches }) (may_under a.state h c.goes.under fresh) acted.goes in
       let same = with_acts-some h n rest positive in
       let runs : is_run u (with_ran h n rest) ≡ true = ap (is_run u) (sym same) ∙ more.runs in
@@ -194,7 +193,7 @@ module _ (start : State) (a : Opened) (c : IsCalling start a) where
       let limit = c.can.told.most in
       let stays = stays-shown a.state h n (λ i less. let e = acted.stays i less in omega (arith, e, framed, open_one)) in
       let goes = acts_more u h n false rest (λ is. refl) c.turn.goes open_now (ap (λ (x : State). stays_open x h n) (sym c.turn.reaches) ∙ stays)
-          (omega (arith, so_far, most, budget, limit)) in
+      (omega (arith, so_far, most, budget, limit)) in
       let all = steps_after_run u (with_ran h n rest) runs in
       let first = entered_steps s h p in
       let end = ap (λ (x : State). x.steps) reaches in
@@ -244,8 +243,8 @@ module _ (start : State) (a : Opened) (c : IsCalling start a) where
       let apart = rest_apart (after t (Entered h q)) h false inside cut.behind in
       let at : r.before ≡ c.from.history ++ Entered h p ∷ xs = before ∙ ap (λ es. c.from.history ++ es) (since ∙ ap (λ y. y ∷ xs) (sym first)) in
       let there : state_after start r.before ≡ t =
-          ap (state_after start) at ∙ state_after-append start c.from.history (Entered h p ∷ xs)
-          ∙ ap (λ (y : State). state_after (after y (Entered h p)) xs) (sym c.can.told.reaches) ∙ ap (λ (y : State). state_after y xs) (after-Entered s h p) in
+      ap (state_after start) at ∙ state_after-append start c.from.history (Entered h p ∷ xs)
+      ∙ ap (λ (y : State). state_after (after y (Entered h p)) xs) (sym c.can.told.reaches) ∙ ap (λ (y : State). state_after y xs) (after-Entered s h p) in
       let all = ap steps_of_all rest ∙ steps-append xs (Entered h q ∷ inside) in
       let more = steps-append xs (e ∷ []) in
       let none = entered_step h q in

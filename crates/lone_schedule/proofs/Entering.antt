@@ -3,12 +3,11 @@ use Rattle.std.proofs.Common.{◌≡◌, ℕ, ◌<◌, true, false, not, ◌||�
 use Rattle.std.proofs.lemmas.Option.{slice_get-map}
 use Rattle.guest_words.specs.declared.hart.Slot.{Slot}
 use Rattle.guest_words.specs.declared.point.PointRef.{PointRef}
-use Rattle.guest_words.specs.Act.{act_of}
 use Rattle.guest_words.specs.Harts.{opened, unreserved}
 use Rattle.guest_words.specs.State.{State, changed, enter, frames_at, on_hart}
 use Rattle.run_history.specs.declared.entry.Entry.{Entered}
 use Rattle.run_history.specs.Ahead.{arrival_ahead}
-use Rattle.run_history.specs.Legal.{is_arrival, legal, may_act}
+use Rattle.run_history.specs.Legal.{legal, may_act}
 use Rattle.run_history.specs.Quiet.{is_quiet}
 use Rattle.run_history.proofs.Ands.{and_right}
 use Rattle.run_history.proofs.Arrivals.{arrival_arrived}

@@ -1,5 +1,5 @@
 -- Rows of acts by each of their acts, and what a call for pages is to the machine.
-use Rattle.std.proofs.Common.{◌≡◌, ℕ, zero, suc, ◌+◌, ◌<◌, Bool, true, false, not, ◌&&◌, length, Option, Some, None, refl, ap, sym, ◌∙◌, arith, slice_get}
+use Rattle.std.proofs.Common.{◌≡◌, ℕ, zero, suc, ◌<◌, true, false, not, length, Option, Some, None, refl, ap, sym, arith, slice_get}
 use Rattle.std.proofs.lemmas.Bool.{and_from}
 use Rattle.guest_words.specs.declared.act.Act.{Act}
 use Rattle.guest_words.specs.declared.act.Act.TheVariants as act
@@ -10,7 +10,6 @@ use Rattle.guest_words.specs.HartAct.{hart_act}
 use Rattle.guest_words.specs.State.{State}
 use Rattle.hart_step.specs.Stops.{act_wants, can_want, slot_wants, wants_memory}
 use Rattle.run_history.specs.After.{next, ran}
-use Rattle.run_history.proofs.RunSteps.{ran-none}
 use Rattle.lone_schedule.specs.Rows.{act_asks, asks_pages, is_row, slot_asks, takes_none, takes_pages}
 
 none-shown : (s : State) (h n : ℕ) → ((i : ℕ) → i < n → takes_pages (ran s h i) h ≡ false) → takes_none s h n ≡ true

@@ -22,7 +22,7 @@ pub record CanTurn (start : State) (m : Machine) : Type 0 where
   pub slots : 0 < length m.state.slots
   pub told : IsAsTold start m
 
--- a hart has entered a point in a state behind these entries, and has gone on by the rules of a turn
+-- a hart has entered a point in a state behind these entries, and gone on by the rules of a turn
 pub record InTurn (h : ℕ) (before : List Entry) (s : State) (m : Machine) : Type 0 where
   pub point : PointRef
   pub rest : List Entry

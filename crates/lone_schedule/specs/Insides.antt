@@ -15,7 +15,7 @@ unfoldable mutual
   is_apart (Rescued' h point fault shape inside) = is_apart_row false inside
   is_apart (Ended ending) = true
 
-  -- the Rans of an inside stand apart, and those of its insides, where a Ran stands before it or not
+  -- the Rans of an inside and of its insides stand apart, with a Ran standing before it or not
   pub is_apart_row : {m : _} → Bool → Row_of-Entry m → Bool
   is_apart_row ran end_of-Entry = true
   is_apart_row ran (more_of-Entry e rest) =

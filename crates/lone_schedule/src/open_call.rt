@@ -8,7 +8,8 @@ ghost use Rattle.lone_schedule.specs.Drives.{CanTurn, GivesUp, IsCalling, MakesT
 use edge_ports::{Port, Sink, Source};
 use machine_core::{Active, Begin, Next, Origin, Quiet};
 
-/// The call of the point at which a hart stands, until its frames have closed, or as far as it goes.
+/// The call of the point at which a hart stands, until its frames have closed, or as far as it
+/// goes.
 pub fn make_call<K: Origin, S: Source, T: Sink, P: Port>(
     machine: Quiet<K, S, T, P>,
     hart: u8,

@@ -1,5 +1,6 @@
-ghost use Rattle.std.specs.Prelude.{◌≡◌, ◌⊎◌, ◌<◌, false, true, length, Some, None};
+ghost use Rattle.std.specs.Prelude.{◌≡◌, ◌⊎◌, ◌<◌, ◌&&◌, false, true, not, is_none, length, Some, None};
 ghost use Rattle.guest_words.specs.Endings.{is_stuck};
+ghost use Rattle.machine_core.specs.Machine.{IsAsTold};
 ghost use Rattle.machine_core.specs.declared.limits.Mode.TheVariants.{Lone};
 ghost use Rattle.lone_schedule.specs.Choice.{chosen};
 ghost use Rattle.lone_schedule.specs.Drives.{CanTurn, GivesUp, RunsAlone, TakesTurn};
@@ -46,6 +47,15 @@ fn make_turn<K: Origin, S: Source, T: Sink, P: Port>(
     }
 }
 
+/// Whether the run goes on, and the machine with it.
+fn can_turn<K: Origin, S: Source, T: Sink, P: Port>(machine: &Quiet<K, S, T, P>) -> bool
+    ensures value { result
+        ≡ (is_none machine.now.state.ending && not machine.now.abandoned) }
+    ensures told { IsAsTold K.state machine.now }
+{
+    machine.ending().is_none() && !machine.abandoned()
+}
+
 /// Drives a machine by the words of a seed, until its run has ended or memory is wanting.
 pub fn run_alone<K: Origin, S: Source, T: Sink, P: Port>(
     machine: Quiet<K, S, T, P>,
@@ -58,15 +68,9 @@ pub fn run_alone<K: Origin, S: Source, T: Sink, P: Port>(
 {
     let mut machine = machine;
     let mut words = Words::of(seed);
-    loop {
-        if machine.abandoned() {
-            return machine;
-        }
-        match machine.ending() {
-            Some(_) => return machine,
-            None => {}
-        }
+    while can_turn(&machine) {
         let word = words.draw();
         machine = make_turn(machine, word);
     }
+    machine
 }
