@@ -17,9 +17,9 @@ word n = to_le_bytes w32 n
 abbrev pub double : ℕ → List ℕ
 double n = to_le_bytes w64 n
 
--- the file's header: 64-bit, little-endian, version 1; executable, for RISC-V, version 1; its entry,
--- the place of its program headers, no section headers, no flags; the sizes of a header, of a
--- program header and their number, the size of a section header, and no section
+-- the file's header: 64-bit, little-endian, version 1; executable, for RISC-V, version 1; its
+-- entry, the place of its program headers, no section headers, no flags; the sizes of a header, of
+-- a program header and their number, the size of a section header, and no section
 unfoldable pub file_header : List ℕ
 file_header =
     (0x7f ∷ 0x45 ∷ 0x4c ∷ 0x46 ∷ 2 ∷ 1 ∷ 1 ∷ []) ++ replicate 9 0

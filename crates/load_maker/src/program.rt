@@ -3,8 +3,8 @@ use guest_words::Op;
 /// An instruction, its rd, rs1 and rs2, and its immediate.
 pub type Line = (Op, u8, u8, u8, i32);
 
-/// The load's program, from 0x10000 on. Four harts read single bytes; each byte goes to the point at
-/// 0x100d8, which adds it to the sum at 0x20000, but faults at a zero byte after it has added 1,000.
+/// The load's program, from 0x10000 on. Four harts read single bytes. Each byte goes to the point
+/// at 0x100d8, which adds it to the sum at 0x20000; at a zero byte it adds 1,000 and then faults.
 /// The first hart waits until all are done, and writes the sum.
 pub const PROGRAM: [Line; 64] = [
     (Op::Lui, 8, 0, 0, 0x20000),

@@ -4,8 +4,8 @@ use rv_decode::decode;
 use std::process::Abort;
 use std::test::Fail;
 
-/// A word by the ISA manual's formats, and its instruction, rd, rs1, rs2 and immediate: at least one
-/// of each format.
+/// A word by the ISA manual's formats, and its instruction, rd, rs1, rs2 and immediate: at least
+/// one of each format.
 const WORDS: [(u32, Op, u8, u8, u8, i32); 14] = [
     (0x80000fb7, Op::Lui, 31, 0, 0, -2147483648),
     (0x400002ef, Op::Jal, 5, 0, 0, 1024),
