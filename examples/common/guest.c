@@ -1,23 +1,14 @@
 #include "guest.h"
-
-static long call(long number, long first, long second, long third)
-{
-    register long a0 __asm__("a0") = first;
-    register long a1 __asm__("a1") = second;
-    register long a2 __asm__("a2") = third;
-    register long a7 __asm__("a7") = number;
-    __asm__ volatile("ecall" : "+r"(a0) : "r"(a1), "r"(a2), "r"(a7) : "memory");
-    return a0;
-}
+#include "calls.h"
 
 long read_some(long descriptor, void *place, long size)
 {
-    return call(63, descriptor, (long)place, size);
+    return call(CALL_READ, descriptor, (long)place, size);
 }
 
 long write_some(long descriptor, const void *place, long size)
 {
-    return call(64, descriptor, (long)place, size);
+    return call(CALL_WRITE, descriptor, (long)place, size);
 }
 
 int next_byte(void)

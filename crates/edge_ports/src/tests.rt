@@ -1,5 +1,4 @@
-// Objects in memory, and each adapter over real files. The devices over them are run by programs, in
+// Each adapter over real files. Objects in memory have clauses for all that they do, and run in
 // `top_tests`.
 mod adapters;
 mod file_shelf;
-mod in_memory;

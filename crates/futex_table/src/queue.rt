@@ -82,6 +82,7 @@ impl Queue {
         ensures slots { MarksSlots result.slots (woken place most self.old) }
         ensures count { result.count ≡ length (woken place most self.old) }
         ensures rest { self.new ≡ unwoken place most self.old }
+        ensures own { HasOwnSlots self.old }
     {
         let woken = woken_of(&self.waiters[..self.count], place, most);
         self.count = keep_unwoken(&mut self.waiters, self.count, place, most);

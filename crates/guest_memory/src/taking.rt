@@ -1,4 +1,4 @@
-ghost use Rattle.std.specs.Prelude.{◌≡◌, ◌+◌, ◌-◌, ◌*◌, ◌%◌, ◌<◌, ◌≤◌, ◌^◌};
+ghost use Rattle.std.specs.Prelude.{◌≡◌, ◌+◌, ◌-◌, ◌*◌, ◌%◌, ◌<◌, ◌≤◌, ◌^◌, length};
 ghost use Rattle.std.specs.Prelude.{IfNone, IfSome, IsSome, true};
 ghost use Rattle.std.specs.FinMap as map;
 ghost use Rattle.guest_words.specs.Space.{without};
@@ -21,6 +21,7 @@ impl Memory {
           spare = self.new.spare;
         } }
         ensures notes { Notes true log.old.notes log.new.notes self.old self.new }
+        ensures few { length log.new.notes ≤ length log.old.notes + count }
         ensures room { log.old.spare ≤ log.new.spare + count }
         ensures text { HasNoText self.old.space from (PAGE * count)
             → SameText self.old.space self.new.space }
@@ -58,6 +59,7 @@ impl Memory {
         } }
         ensures below { from + PAGE < 2 ^ 64 }
         ensures notes { Notes true log.old.notes log.new.notes self.old self.new }
+        ensures few { length log.new.notes ≤ length log.old.notes + 1 }
         ensures room { log.old.spare ≤ log.new.spare + 1 }
     {
         log.note_gone(self.take_page(from));

@@ -36,6 +36,7 @@ impl Memory {
         ensures value { self.new
             ≡ record self.old { space = with_bytes self.old.space from bytes.now } }
         ensures notes { Notes true log.old.notes log.new.notes self.old self.new }
+        ensures few { length log.new.notes ≤ length log.old.notes + length bytes.now }
         ensures room { log.old.spare ≤ log.new.spare + length bytes.now }
         ensures text { SameText self.old.space self.new.space }
     {
@@ -58,6 +59,7 @@ impl Memory {
           space = with_bytes self.old.space from (take result bytes.now);
         } }
         ensures notes { Notes true log.old.notes log.new.notes self.old self.new }
+        ensures few { length log.new.notes ≤ length log.old.notes + 1 }
         ensures room { log.old.spare ≤ log.new.spare + 1 }
         ensures text { SameText self.old.space self.new.space }
     {
@@ -85,6 +87,7 @@ impl Memory {
           space = with_number self.old.space address (bytes_in width) value;
         } }
         ensures notes { Notes true log.old.notes log.new.notes self.old self.new }
+        ensures few { length log.new.notes ≤ length log.old.notes + 1 }
         ensures room { log.old.spare ≤ log.new.spare + 1 }
         ensures text { SameText self.old.space self.new.space }
     {

@@ -1,10 +1,8 @@
 -- Acts in a row, one more.
-use Rattle.std.proofs.Common.{◌≡◌, ℕ, suc, ◌+◌, Bool, true, false, not, ◌&&◌, List, ◌++◌, refl, sym, ap, ◌∙◌, arith, Option, Some, None, append-nil}
+use Rattle.std.proofs.Common.{◌≡◌, ℕ, suc, ◌+◌, Bool, true, false, not, ◌&&◌, List, refl, sym, ap, ◌∙◌, arith, Option, Some, None}
 use Rattle.guest_words.specs.declared.point.Point.{Point}
 use Rattle.guest_words.specs.declared.hart.Frame.{Frame}
-use Rattle.hart_step.specs.InARow.{Lone, act_at, after_act, is_next, after_acts, all_go, closes, stays_open, notes_of, act_notes, notes_after, notes_under}
-use Rattle.std.proofs.lemmas.List.{append_assoc}
-use Rattle.undo_log.specs.declared.note.Note.{Note}
+use Rattle.hart_step.specs.InARow.{Lone, act_at, after_act, is_next, after_acts, all_go, closes, stays_open}
 
 pub after_none : (points : List Point) (frames : ℕ) (s : Lone) → s ≡ after_acts points frames 0 s
 unfolding after_acts
@@ -37,11 +35,6 @@ open_more points frames top n s next now so_far over =
     ap (λ k. stays_open points frames top k s) one
     ∙ and_both _ _ so_far (ap (λ k. not (closes top (after_acts points frames k s).hart)) (sym one) ∙ ap (λ (t : Lone). not (closes top t.hart)) (sym now) ∙ ap not over)
 
-pub notes_none : (noted : Bool) (points : List Point) (frames : ℕ) (s : Lone) (notes : List Note) → notes ≡ notes ++ notes_under noted points frames 0 s
-unfolding notes_after
-notes_none false points frames s notes = sym (append-nil notes)
-notes_none true points frames s notes = sym (append-nil notes)
-
 -- the state after one act more
 pub step_more : (points : List Point) (frames n : ℕ) (s now next : Lone) → now ≡ after_acts points frames n s → next ≡ after_act (act_at points frames now) now
     → next ≡ after_acts points frames (n + 1) s
@@ -49,15 +42,3 @@ unfolding after_acts
 step_more points frames n s now next so_far step =
     let one : suc n ≡ n + 1 = omega arith in
     step ∙ ap (λ (t : Lone). after_act (act_at points frames t) t) so_far ∙ ap (λ k. after_acts points frames k s) one
-
--- the notes of one act more
-pub notes_more : (noted : Bool) (points : List Point) (frames n : ℕ) (s now : Lone) (first notes more : List Note) → now ≡ after_acts points frames n s
-    → notes ≡ first ++ notes_under noted points frames n s → more ≡ notes ++ act_notes noted (act_at points frames now) now.memory → more ≡ first ++ notes_under noted points frames (n + 1) s
-unfolding notes_after
-notes_more false points frames n s now first notes more so_far have is = is ∙ append-nil notes ∙ have
-notes_more true points frames n s now first notes more so_far have is =
-    let one : suc n ≡ n + 1 = omega arith in
-    is ∙ ap (λ xs. xs ++ notes_of (act_at points frames now) now.memory) have
-    ∙ append_assoc first (notes_after points frames n s) (notes_of (act_at points frames now) now.memory)
-    ∙ ap (λ (t : Lone). first ++ (notes_after points frames n s ++ notes_of (act_at points frames t) t.memory)) so_far
-    ∙ ap (λ k. first ++ notes_after points frames k s) one

@@ -9,4 +9,4 @@ use Rattle.hart_step.specs.InPlace.{parts, IsDone, IsMade}
 
 pub made_of_done : (act : Act) (old new : Hart) (m : AddressSpace) (before : Before) (said : Did) → IsDone act old new said → IsMade act (parts old m before) (parts new m before) said
 made_of_done act old new m before said done =
-    record { answer = done.answer; hart = done.hart; memory = sym (done.memory m); before = sym (done.before m before) }
+    record { answer = done.answer; hart = done.hart; memory = sym (done.memory m); before = sym (done.before m before); back = λ stored. absurd (done.quiet stored) }

@@ -62,13 +62,13 @@ pub still_arrived : (m : AddressSpace) (points : List Point) (frames : ℕ) (har
 still_arrived m points frames hart None is some = absurd (cc)
 still_arrived m points frames hart (Some point) is some =
     let act = act_arrived m.space points frames hart point is in
-    record { made = λ before. subst (λ (a : Act). IsMade a (parts hart m before) (parts hart m before) did.Arrived) (sym act) (record { answer = refl; hart = refl; memory = refl; before = refl }) }
+    record { made = λ before. subst (λ (a : Act). IsMade a (parts hart m before) (parts hart m before) did.Arrived) (sym act) (record { answer = refl; hart = refl; memory = refl; before = refl; back = λ never. cc }) }
 
 pub still_fault : (m : AddressSpace) (points : List Point) (frames : ℕ) (hart : Hart) (name : FaultName) → arrival_of points frames hart ≡ None → looked m.space hart.pc ≡ Err name
     → IsStill m points frames hart (did.Fault name)
 still_fault m points frames hart name none is =
     let act = act_fault m.space points frames hart name none is in
-    record { made = λ before. subst (λ (a : Act). IsMade a (parts hart m before) (parts hart m before) (did.Fault name)) (sym act) (record { answer = refl; hart = refl; memory = refl; before = refl }) }
+    record { made = λ before. subst (λ (a : Act). IsMade a (parts hart m before) (parts hart m before) (did.Fault name)) (sym act) (record { answer = refl; hart = refl; memory = refl; before = refl; back = λ never. cc }) }
 
 pub none_of : (o : Option PointRef) → false ≡ is_some o → o ≡ None
 none_of None is = refl

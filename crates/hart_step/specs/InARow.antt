@@ -1,15 +1,10 @@
 -- Acts of one hart in a row, with no other hart and no frame that closes between them.
-use Rattle.std.specs.Prelude.{◌≡◌, ℕ, zero, suc, ◌-◌, ◌<◌, Bool, true, false, not, ◌&&◌, List, [], ◌∷◌, ◌++◌, Option, Some, None}
-use Rattle.undo_log.specs.declared.note.Note.{Note}
-use Rattle.undo_log.specs.declared.note.Note.TheVariants.{Bytes}
-use Rattle.guest_words.specs.declared.act.Write.{Write}
+use Rattle.std.specs.Prelude.{◌≡◌, ℕ, zero, suc, ◌-◌, ◌<◌, Bool, true, false, not, ◌&&◌, List, Option, Some, None}
 use Rattle.guest_words.specs.declared.point.Point.{Point}
 use Rattle.guest_words.specs.declared.hart.Hart.{Hart}
 use Rattle.guest_words.specs.declared.hart.Frame.{Frame}
 use Rattle.guest_words.specs.declared.act.Act.{Act}
 use Rattle.guest_words.specs.declared.act.Act.TheVariants as act
-use Rattle.guest_words.specs.Space.{number_at}
-use Rattle.guest_words.specs.Widths.{bytes_in}
 use Rattle.guest_memory.specs.Kept.{AddressSpace}
 use Rattle.guest_words.specs.Harts.{is_over}
 use Rattle.guest_words.specs.HartAct.{hart_act}
@@ -57,34 +52,6 @@ stays_open points frames top zero s = true
 stays_open points frames top (suc n) s =
     stays_open points frames top n s
     && not (closes top (after_acts points frames (suc n) s).hart)
-
--- the notes of an act: what stood where it stores
-abbrev pub notes_by : Option Write → AddressSpace → List Note
-notes_by None m = []
-notes_by (Some write) m =
-    Bytes write.address write.width
-    (number_at m.space write.address (bytes_in write.width)) ∷ []
-
-abbrev pub notes_of : Act → AddressSpace → List Note
-notes_of (act.Next hart write) m = notes_by write m
-notes_of _ m = []
-
--- they are taken where they are asked for
-abbrev pub act_notes : Bool → Act → AddressSpace → List Note
-act_notes false did m = []
-act_notes true did m = notes_of did m
-
--- the notes of so many acts, the oldest first
-unfoldable pub notes_after : List Point → ℕ → ℕ → Lone → List Note
-notes_after points frames zero s = []
-notes_after points frames (suc n) s =
-    let before = after_acts points frames n s in
-    notes_after points frames n s ++ notes_of (act_at points frames before) before.memory
-
--- the notes of so many acts, where they are asked for
-abbrev pub notes_under : Bool → List Point → ℕ → ℕ → Lone → List Note
-notes_under false points frames n s = []
-notes_under true points frames n s = notes_after points frames n s
 
 -- the last of so many acts closes the top frame
 pub record IsClosed (points : List Point) (frames : ℕ) (top : Option Frame) (start end : Lone)

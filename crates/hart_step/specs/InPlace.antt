@@ -1,5 +1,5 @@
 -- The act of a hart in place: what it answers, and the hart and the memory after it.
-use Rattle.std.specs.Prelude.{◌≡◌, Bool, true, false, Option, Some, None, slice_index}
+use Rattle.std.specs.Prelude.{◌≡◌, ◌≢◌, Bool, true, false, Option, Some, None, slice_index}
 use Rattle.guest_words.specs.declared.class.Class.{Class}
 use Rattle.guest_words.specs.declared.class.Class.TheVariants as class
 use Rattle.guest_words.specs.declared.hart.Hart.{Hart}
@@ -9,10 +9,13 @@ use Rattle.guest_words.specs.declared.act.Write.{Write}
 use Rattle.guest_words.specs.Space.{number_at, with_number}
 use Rattle.guest_words.specs.Widths.{bytes_in}
 use Rattle.guest_memory.specs.Kept.{AddressSpace}
+use Rattle.guest_memory.specs.Returning.{put_back}
+use Rattle.undo_log.specs.declared.note.Note.TheVariants.{Bytes}
 use Rattle.guest_words.specs.Harts.{touched}
 use Rattle.hart_step.specs.declared.before.Before.{Before}
 use Rattle.hart_step.specs.declared.did.Did.{Did}
 use Rattle.hart_step.specs.declared.did.Did.TheVariants as did
+use Rattle.hart_step.specs.declared.did.Did.TheVariants.{Stored}
 
 -- x0 holds 0
 abbrev pub HasZero : Hart → Type 0
@@ -67,6 +70,7 @@ memory_after _ m = m
 pub record IsDone (did : Act) (old new : Hart) (said : Did) : Type 0 where
   pub answer : said ≡ did_of did
   pub hart : new ≡ hart_after did old
+  pub quiet : said ≢ Stored
   pub memory : (m : AddressSpace) → memory_after did m ≡ m
   pub before : (m : AddressSpace) (before : Before) → before_after did m before ≡ before
 
@@ -79,12 +83,19 @@ pub record Parts : Type 0 where
 abbrev pub parts : Hart → AddressSpace → Before → Parts
 parts hart memory before = record { hart = hart; memory = memory; before = before }
 
+-- where an act stores, what stood there gives the memory before it back
+abbrev pub LeadsBack : Did → Parts → AddressSpace → Type 0
+LeadsBack said new old =
+    said ≡ Stored
+    → put_back new.memory (Bytes new.before.address new.before.width new.before.number) ≡ old
+
 -- a hart did an act
 pub record IsMade (did : Act) (old new : Parts) (said : Did) : Type 0 where
   pub answer : said ≡ did_of did
   pub hart : new.hart ≡ hart_after did old.hart
   pub memory : new.memory ≡ memory_after did old.memory
   pub before : new.before ≡ before_after did old.memory old.before
+  pub back : LeadsBack said new old.memory
 
 abbrev pub is_atomic : Class → Bool
 is_atomic (class.LoadReserved width) = true

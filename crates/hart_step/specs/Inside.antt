@@ -3,7 +3,7 @@ use Rattle.std.specs.Prelude.{◌≡◌, ℕ, ◌+◌, ◌-◌, ◌^◌, ◌<◌
 use Rattle.std.specs.Prelude.{map, sum_by}
 use Rattle.guest_words.specs.declared.hart.Slot.{Slot}
 use Rattle.guest_words.specs.declared.hart.Waiter.{Waiter}
-use Rattle.guest_words.specs.declared.limits.TheConstants.{BUDGET, HARTS}
+use Rattle.guest_words.specs.declared.limits.TheConstants.{BUDGET}
 use Rattle.guest_words.specs.declared.record.Record.{Record}
 use Rattle.guest_words.specs.State.{is_closed}
 use Rattle.guest_memory.specs.Kept.{AddressSpace}

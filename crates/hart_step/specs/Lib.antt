@@ -11,3 +11,5 @@ pub mod Noted
 pub mod Returns
 pub mod Inside
 pub mod DeviceAnswers
+pub mod Legs
+pub mod SlotActs

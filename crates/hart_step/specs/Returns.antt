@@ -1,5 +1,5 @@
 -- A rescue: what was kept at the entry comes back, and the hart returns from the call.
-use Rattle.std.specs.Prelude.{◌≡◌, ℕ, ◌+◌, ◌≤◌, List, length}
+use Rattle.std.specs.Prelude.{ℕ, ◌+◌, ◌≤◌, List}
 use Rattle.guest_words.specs.State.{State, changed}
 use Rattle.checkpoints.specs.declared.checkpoint.Checkpoint.{Checkpoint}
 use Rattle.guest_memory.specs.Kept.{AddressSpace}

@@ -11,10 +11,10 @@ use guest_words::{Act, Class, FaultName, Hart, Inst, Points};
 
 /// The act of a hart with so many frames open, before they close. Takes no memory.
 #[tactic(auto, unfolding(guest_words::specs::HartAct::hart_act))]
-pub fn decide(hart: &Hart, memory: &Memory, points: &Points, frames: u32) -> Act
+pub fn decide(hart: &Hart, memory: &Memory, points: &Points, frames: usize) -> Act
     ensures value { result ≡ hart_act memory.now.space points.now frames hart.now }
 {
-    match arrival(points, frames as usize, hart) {
+    match arrival(points, frames, hart) {
         Some(point) => Act::Arrived(point),
         None => fetched(memory, hart),
     }

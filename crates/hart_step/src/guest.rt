@@ -1,6 +1,7 @@
-ghost use Rattle.std.specs.Prelude.{◌≡◌, ◌≤◌, ◌<◌, ◌+◌, ◌++◌, true, false, IfOk};
+ghost use Rattle.std.specs.Prelude.{◌≡◌, ◌≤◌, ◌<◌, ◌+◌, ◌++◌, true, false, IfOk, length};
 ghost use Rattle.guest_words.specs.HartAct.{hart_act};
-ghost use Rattle.hart_step.specs.InARow.{lone, notes_under, IsRow};
+ghost use Rattle.guest_memory.specs.Noting.{Notes};
+ghost use Rattle.hart_step.specs.InARow.{lone, IsRow};
 ghost use Rattle.hart_step.specs.InPlace.{did_of, HasZero};
 
 use crate::known::{Known, blank_table};
@@ -71,10 +72,10 @@ impl Guest {
         ensures row { IsRow self.old.points frames top.now
             (lone hart.old self.old.memory) (lone hart.new self.new.memory)
             result.count result.closed }
-        ensures notes { log.new.notes ≡ log.old.notes ++ notes_under noted
-            self.old.points frames result.count (lone hart.old self.old.memory) }
+        ensures notes { Notes noted log.old.notes log.new.notes self.old.memory self.new.memory }
         ensures stops { result.closed ≡ false → result.count < most
             → result.did ≡ did_of (hart_act self.new.memory.space self.old.points frames hart.new) }
+        ensures few { length log.new.notes ≤ length log.old.notes + result.count }
         ensures spare { log.old.spare ≤ log.new.spare + result.count }
         ensures points { self.new.points ≡ self.old.points }
         ensures zero { HasZero hart.new }

@@ -54,6 +54,7 @@ impl Guest {
           };
         } }
         ensures notes { Notes noted log.old.notes log.new.notes self.old.memory self.new.memory }
+        ensures few { length log.new.notes ≤ length log.old.notes + length bytes.now }
         ensures room { log.old.spare ≤ log.new.spare + length bytes.now }
     {
         if noted {

@@ -3,14 +3,22 @@
 
 mod acts;
 mod before;
+mod calls;
 mod carry;
+mod changes;
 mod deciding;
 mod did;
+mod doing;
 mod engine;
+mod facts;
 mod guest;
+mod guest_changes;
 mod guest_serving;
+mod hurry;
 mod known;
+mod leg;
 mod look;
+mod mapping;
 mod memory_rows;
 mod next_act;
 mod outcomes;
@@ -21,10 +29,14 @@ mod record_log;
 mod register_rows;
 mod registers;
 mod restore;
+mod running;
 mod serving;
 mod step;
 mod stretches;
+#[cfg(test)]
+mod tests;
 mod text;
+mod wants;
 
 pub use deciding::decide;
 pub use engine::Engine;

@@ -2,7 +2,7 @@ ghost use Rattle.std.specs.Prelude.{◌≡◌, ◌<◌, ◌*◌, ◌^◌};
 ghost use Rattle.guest_words.specs.Widths.{bytes_in};
 ghost use Rattle.guest_words.specs.Effects.{class_of, loaded_of};
 ghost use Rattle.guest_words.specs.Word.{sign_extended, word_of};
-ghost use Rattle.guest_words.specs.HartAct.{access_place, load_act, store_act, second};
+ghost use Rattle.guest_words.specs.HartAct.{access_place, first, load_act, store_act, second};
 ghost use Rattle.guest_words.specs.Instructions.{NamesRegisters};
 ghost use Rattle.guest_memory.specs.Text.{SameText};
 ghost use Rattle.hart_step.specs.InPlace.{parts, HasZero, IsDone, IsMade};
@@ -14,7 +14,7 @@ use guest_atomics::touch;
 use guest_memory::Memory;
 use guest_pages::Recent;
 use guest_words::{Class, Hart, Inst, Op, Width};
-use rv_word::{sx32, word_of};
+use rv_word::{sum, sx32, word_of};
 
 /// What a load of so many bytes puts into rd, of the number that they spell.
 #[inline(always)]
@@ -56,18 +56,21 @@ pub fn load(
     hart: &mut Hart,
     inst: &Inst,
     op: Op,
-    place: u64,
+    a: u64,
+    i: u64,
     width: Width,
 ) -> Did
     requires class { class_of op ≡ Class.Load width }
     requires op { inst.now.op ≡ op }
     requires registers { NamesRegisters inst.now }
     requires zero { HasZero hart.old }
-    requires place { place ≡ access_place hart.old inst.now }
+    requires a { a ≡ first hart.old inst.now }
+    requires i { i ≡ word_of inst.now.imm }
     ensures done { IsDone (load_act memory.now.space hart.old inst.now
         (access_place hart.old inst.now) width) hart.old hart.new result }
     ensures zero { HasZero hart.new }
 {
+    let place = sum(a, i);
     match memory.read_near(recent, place, width) {
         Ok(number) => {
             let value = loaded(op, width, number);
@@ -86,12 +89,14 @@ pub fn store(
     before: &mut Before,
     hart: &mut Hart,
     inst: &Inst,
-    place: u64,
+    a: u64,
+    i: u64,
     b: u64,
     width: Width,
 ) -> Did
     requires zero { HasZero hart.old }
-    requires place { place ≡ access_place hart.old inst.now }
+    requires a { a ≡ first hart.old inst.now }
+    requires i { i ≡ word_of inst.now.imm }
     requires b { b ≡ second hart.old inst.now }
     ensures made { IsMade (store_act memory.old.space hart.old inst.now
         (access_place hart.old inst.now) width) (parts hart.old memory.old before.old)
@@ -99,6 +104,7 @@ pub fn store(
     ensures zero { HasZero hart.new }
     ensures text { SameText memory.old.space memory.new.space }
 {
+    let place = sum(a, i);
     match memory.exchange(recent, place, width, b) {
         Ok(old) => {
             go_past(hart);

@@ -1,6 +1,8 @@
+ghost use Rattle.std.specs.Prelude.{length};
 ghost use Rattle.std.specs.Prelude.{◌≡◌, ◌≤◌, ◌<◌, ◌+◌, ◌++◌, [], ◌∷◌, true, false, is_none, IfSome, OnSome};
 ghost use Rattle.guest_words.specs.HartAct.{hart_act};
-ghost use Rattle.hart_step.specs.InARow.{act_notes, after_act, closes, is_next, lone, notes_under, IsRow};
+ghost use Rattle.guest_memory.specs.Noting.{Notes};
+ghost use Rattle.hart_step.specs.InARow.{after_act, closes, is_next, lone, IsRow};
 ghost use Rattle.hart_step.specs.InPlace.{did_of, HasZero};
 ghost use Rattle.hart_step.specs.Table.{IsTable};
 
@@ -47,10 +49,10 @@ pub fn run(
     ensures within { result.count ≤ most }
     ensures row { IsRow points.now frames top.now (lone hart.old memory.old)
         (lone hart.new memory.new) result.count result.closed }
-    ensures notes { log.new.notes ≡ log.old.notes ++ notes_under noted points.now
-        frames result.count (lone hart.old memory.old) }
+    ensures notes { Notes noted log.old.notes log.new.notes memory.old memory.new }
     ensures stops { result.closed ≡ false → result.count < most
         → result.did ≡ did_of (hart_act memory.new.space points.now frames hart.new) }
+    ensures few { length log.new.notes ≤ length log.old.notes + result.count }
     ensures spare { log.old.spare ≤ log.new.spare + result.count }
     ensures table { IsTable memory.new.space points.now table.new }
     ensures zero { HasZero hart.new }
@@ -112,10 +114,10 @@ fn go(
     ensures after { lone hart.new memory.new
         ≡ after_act (hart_act memory.old.space points.now frames hart.old)
         (lone hart.old memory.old) }
-    ensures notes { log.new.notes ≡ log.old.notes ++ act_notes noted
-        (hart_act memory.old.space points.now frames hart.old) memory.old }
+    ensures notes { Notes noted log.old.notes log.new.notes memory.old memory.new }
     ensures table { IsTable memory.new.space points.now table.new }
     ensures zero { HasZero hart.new }
+    ensures few { length log.new.notes ≤ length log.old.notes + 1 }
     ensures spare { log.old.spare ≤ log.new.spare + 1 }
     ensures kept { OnSome result (log.new ≡ log.old) }
 {
@@ -136,6 +138,7 @@ fn note(log: &mut Log, before: &Before)
     requires room { 0 < log.old.spare }
     ensures notes { log.new.notes ≡ log.old.notes
         ++ Note.Bytes before.now.address before.now.width before.now.number ∷ [] }
+    ensures few { length log.new.notes ≤ length log.old.notes + 1 }
     ensures room { log.new.spare + 1 ≡ log.old.spare }
 {
     match log.note_bytes(before.address, before.width, before.number) {

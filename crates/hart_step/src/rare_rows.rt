@@ -100,7 +100,7 @@ pub fn conditional(
 
 /// Reads memory into rd and stores what the old value and a register make.
 #[inline(always)]
-pub fn atomic(
+fn atomic(
     memory: &mut Memory,
     recent: &mut Recent,
     before: &mut Before,
@@ -141,6 +141,76 @@ pub fn atomic(
         number,
     };
     Did::Stored
+}
+
+/// The same for 32 bits.
+#[inline(always)]
+pub fn atomic_word(
+    memory: &mut Memory,
+    recent: &mut Recent,
+    before: &mut Before,
+    hart: &mut Hart,
+    inst: &Inst,
+    op: Op,
+    place: u64,
+    b: u64,
+) -> Did
+    requires class { class_of op ≡ Class.Atomic Width.Four }
+    requires op { inst.now.op ≡ op }
+    requires registers { NamesRegisters inst.now }
+    requires zero { HasZero hart.old }
+    requires b { b ≡ second hart.old inst.now }
+    ensures made { IsMade (atomic_act memory.old.space hart.old inst.now place Width.Four)
+        (parts hart.old memory.old before.old) (parts hart.new memory.new before.new) result }
+    ensures zero { HasZero hart.new }
+    ensures text { SameText memory.old.space memory.new.space }
+{
+    atomic(
+        memory,
+        recent,
+        before,
+        hart,
+        inst,
+        op,
+        place,
+        b,
+        Width::Four,
+    )
+}
+
+/// The same for 64 bits.
+#[inline(always)]
+pub fn atomic_double(
+    memory: &mut Memory,
+    recent: &mut Recent,
+    before: &mut Before,
+    hart: &mut Hart,
+    inst: &Inst,
+    op: Op,
+    place: u64,
+    b: u64,
+) -> Did
+    requires class { class_of op ≡ Class.Atomic Width.Eight }
+    requires op { inst.now.op ≡ op }
+    requires registers { NamesRegisters inst.now }
+    requires zero { HasZero hart.old }
+    requires b { b ≡ second hart.old inst.now }
+    ensures made { IsMade (atomic_act memory.old.space hart.old inst.now place Width.Eight)
+        (parts hart.old memory.old before.old) (parts hart.new memory.new before.new) result }
+    ensures zero { HasZero hart.new }
+    ensures text { SameText memory.old.space memory.new.space }
+{
+    atomic(
+        memory,
+        recent,
+        before,
+        hart,
+        inst,
+        op,
+        place,
+        b,
+        Width::Eight,
+    )
 }
 
 /// What an atomic instruction puts into rd, of the number in memory.

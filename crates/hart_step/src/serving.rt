@@ -66,6 +66,7 @@ impl Engine {
         ensures after { self.new.state ≡ called self.old.state hart call.now }
         ensures notes { Notes noted log.old.notes log.new.notes
             (space_of self.old) (space_of self.new) }
+        ensures few { length log.new.notes ≤ length log.old.notes + length call.now.bytes }
         ensures room { log.old.spare ≤ log.new.spare + length call.now.bytes }
     {
         let place = read_place(&self.slots, hart);
@@ -173,6 +174,7 @@ fn put_read(
     } }
     ensures slots { slots.new ≡ read_over slots.old place call.now }
     ensures notes { Notes noted log.old.notes log.new.notes guest.old.memory guest.new.memory }
+    ensures few { length log.new.notes ≤ length log.old.notes + length call.now.bytes }
     ensures room { log.old.spare ≤ log.new.spare + length call.now.bytes }
 {
     if let Way::Read = call.way {

@@ -83,7 +83,7 @@ fn insts_from(
     Ok(insts)
 }
 
-fn inst_at(memory: &Memory, pc: u64) -> Option<Inst>
+pub(crate) fn inst_at(memory: &Memory, pc: u64) -> Option<Inst>
     ensures value { result ≡ HartAct.inst_at memory.now.space pc }
 {
     match look(memory, pc) {

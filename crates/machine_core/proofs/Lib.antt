@@ -1,9 +1,10 @@
 pub mod Calls
-pub mod NamedActs
-pub mod Going
-pub mod Keeping
-pub mod OpenCalls
-pub mod Readiness
-pub mod Turning
-mod Nearing
-mod Lone
+pub mod Gone
+pub mod Nesting
+pub mod Holding
+pub mod Making
+pub mod Asking
+pub mod Ends
+pub mod Opening
+pub mod Fails
+pub mod Steps

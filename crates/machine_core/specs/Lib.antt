@@ -1,7 +1,9 @@
-pub mod ComesTo
+pub mod Inner
+pub mod Kept
 pub mod Machine
 pub mod Nearer
 pub mod OpenSteps
-pub mod Parts
 pub mod QuietSteps
 pub mod Served
+pub mod Turns
+pub mod Under

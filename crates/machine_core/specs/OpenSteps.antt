@@ -1,150 +1,131 @@
--- What a step of a machine with a call of a point open does, and how such a call begins.
-use Rattle.std.specs.Prelude.{◌≡◌, ◌⊎◌, ◌<◌, ℕ, true, false, [], ◌∷◌, ◌++◌, Some, None}
+-- What a step of a machine with calls of points open does, and how a call begins.
+use Rattle.std.specs.Prelude.{◌≡◌, ℕ, ◌≤◌, ◌<◌, Bool, true, false, List, [], ◌∷◌, ◌++◌, None}
 use Rattle.guest_words.specs.declared.ending.Ending.TheVariants as ending
 use Rattle.guest_words.specs.declared.fault.Fault.{Fault as FaultAt}
 use Rattle.guest_words.specs.declared.point.PointRef.{PointRef}
-use Rattle.guest_words.specs.declared.record.Record.{Record}
-use Rattle.guest_words.specs.Act.{StateAct, Absent}
+use Rattle.guest_words.specs.Act.{StateAct, Ordinary, Fault, Request, Arrival, End, Absent, act_of}
 use Rattle.guest_words.specs.Endings.{is_budget_spent}
-use Rattle.guest_words.specs.State.{State, enter, frames_at}
-use Rattle.run_history.specs.declared.entry.Entry.{Entered, Called, Ended}
+use Rattle.guest_words.specs.State.{State, frames_at}
+use Rattle.run_history.specs.declared.entry.Entry.{Entry, Entered}
 use Rattle.run_history.specs.declared.entry.Entry.TheViews as entry
-use Rattle.run_history.specs.After.{after, next, state_after}
-use Rattle.plain_machine.specs.Seen.{seen}
+use Rattle.run_history.specs.After.{after, ran, state_after}
 use Rattle.run_history.specs.Faults.{fault_of, pc_at}
-use Rattle.run_history.specs.LastEntry.{with_act}
-use Rattle.run_history.specs.Legal.{IsLegal, can_go, is_ready_at}
+use Rattle.run_history.specs.LastEntry.{with_acts}
+use Rattle.run_history.specs.Legal.{IsLegal, can_run}
+use Rattle.run_history.specs.Quiet.{is_quiet}
+use Rattle.open_calls.specs.Nest.{Level, flat_from, lowest}
 use Rattle.machine_core.specs.declared.machine.Begin.{Begin}
 use Rattle.machine_core.specs.declared.machine.Begin.TheVariants as begin
 use Rattle.machine_core.specs.declared.machine.Next.{Next}
 use Rattle.machine_core.specs.declared.machine.Next.TheVariants as next
-use Rattle.machine_core.specs.Machine.{Machine, Opened}
-use Rattle.machine_core.specs.Served.{ServedBy}
-use Rattle.machine_core.specs.QuietSteps.{with_entry}
+use Rattle.machine_core.specs.Machine.{GoesOn, Machine, Opened, history_of, whole}
+use Rattle.machine_core.specs.QuietSteps.{CallsOn, EndsBy, with_entry}
 
--- the call of a point has just been entered
-abbrev pub entered : Machine → ℕ → PointRef → Opened
-entered m h point = record {
-  before = m.history;
-  hart = h;
-  point = point;
-  inside = [];
-  state = enter m.state h point;
-  devices = m.devices;
-}
-
--- the machine with the entries of its open call as plain ones
-abbrev pub flat : Opened → Machine
-flat a = record {
-  history = a.before ++ Entered a.hart a.point ∷ a.inside;
-  state = a.state;
-  devices = a.devices;
-  abandoned = false;
-}
-
--- the same, where it isn't to go on
+-- the machine that isn't to go on
 abbrev pub abandoned_of : Machine → Machine
 abandoned_of m = record m { abandoned = true }
 
--- the hart has made an ordinary act
-abbrev pub after_act : Opened → Opened
-after_act a = record a { inside = with_act a.hart a.inside; state = next a.state a.hart }
+-- before each of so many acts the hart has as many frames open
+abbrev pub StaysOpen : State → ℕ → ℕ → Type 0
+StaysOpen s h count =
+    (fewer : ℕ) → fewer < count → frames_at (ran s h fewer) h ≡ frames_at s h
 
--- the hart has made a call on a device
-abbrev pub after_call : Opened → Record → Opened
-after_call a call = record a {
-  inside = a.inside ++ Called a.hart call ∷ [];
-  state = after a.state (Called a.hart call);
-}
+-- the hart makes ordinary acts in a row, of which only the last may close frames
+pub record Acts (a : Opened) (m : Machine) : Type 0 where
+  pub count : ℕ
+  pub some : 1 ≤ count
+  pub goes : can_run a.state a.hart count ≡ true
+  pub stays : StaysOpen a.state a.hart count
+  pub same : m ≡ record (whole a) {
+    history = with_acts a.hart count (history_of a);
+    state = ran a.state a.hart count;
+  }
 
--- the call has met a fault: of all that it did one entry stays, and the state is what this gives
-abbrev pub rescued_machine : State → Opened → FaultAt → Machine
-rescued_machine start a fault =
-    let e = entry.Rescued a.hart a.point fault a.inside in record {
-      history = a.before ++ e ∷ [];
-      state = after (state_after start a.before) e;
-      devices = a.devices;
-      abandoned = false;
-    }
+-- the innermost call is taken back: in the whole history one Rescued entry, legal there, stands in
+-- place of its Entered and all behind it, and the state is what this gives
+pub record Erases (start : State) (fault : FaultAt) (a : Opened) (m : Machine) : Type 0 where
+  pub outer : Level
+  pub further : List Level
+  pub innermost : a.nest.outers ≡ outer ∷ further
+  pub before : List Entry
+  pub encloses : before ≡ flat_from a.hart further outer.entries
+  pub was : history_of a ≡ before ++ Entered a.hart outer.point ∷ a.nest.entries
+  -- the entries since those before the outermost call
+  pub since : List Entry
+  pub follows : before ≡ lowest a.nest ++ since
+  pub legal : IsLegal (state_after start before)
+      (entry.Rescued a.hart outer.point fault a.nest.entries)
+  pub same :
+      let e = entry.Rescued a.hart outer.point fault a.nest.entries in
+      m ≡ record (whole a) {
+        history = before ++ e ∷ [];
+        state = after (state_after start before) e;
+      }
 
--- the act of the hart of the open call
-abbrev pub act : Opened → StateAct
-act a = seen a.state a.hart
+-- a hart enters a point
+pub record EntersAt (h : ℕ) (point : PointRef) (m n : Machine) : Type 0 where
+  pub legal : IsLegal m.state (Entered h point)
+  pub same : n ≡ with_entry m (Entered h point)
 
--- the record that a call on a device made, with its entry and the state after it
-pub record MakesCall (a o : Opened) : Type 0 where
-  pub call : Record
-  pub legal : IsLegal a.state (Called a.hart call)
-  pub served : ServedBy call a.devices o.devices
-  pub same : o ≡ record (after_call a call) { devices = o.devices }
+-- the hart enters a further point
+abbrev pub Enters : PointRef → Opened → Machine → Type 0
+Enters point a m = EntersAt a.hart point (whole a) m
 
--- the hart makes an ordinary act
-pub record Acts (a o : Opened) : Type 0 where
-  pub goes : can_go a.state a.hart ≡ true
-  pub same : o ≡ after_act a
+-- it makes a call on a device
+abbrev pub Asks : Opened → Machine → Type 0
+Asks a m = CallsOn a.hart (whole a) m
 
--- the hart makes one of the two
-abbrev pub Moves : Opened → Opened → Type 0
-Moves a o = Acts a o ⊎ MakesCall a o
+-- what a step does, by the act of the hart
+abbrev pub Does : State → Opened → StateAct → Machine → Type 0
+Does start a (Ordinary t) m = Acts a m
+Does start a (Fault name) m =
+    Erases start (record { name = name; pc = pc_at a.state a.hart }) a m
+Does start a (Request way port asked place) m = Asks a m
+Does start a (Arrival point) m = Enters point a m
+Does start a (End code) m = EndsBy (ending.Exit a.hart code) (whole a) m
+Does start a Absent m = ⊥
 
--- the hart could act, but its act isn't built
-pub record IsUnbuilt (a : Opened) : Type 0 where
-  pub fresh : is_budget_spent a.state ≡ false
-  pub ready : is_ready_at a.state a.hart ≡ true
-  pub absent : act a ≡ Absent
+abbrev pub DoesBy : State → Opened → Bool → Machine → Type 0
+DoesBy start a true m = EndsBy ending.Budget (whole a) m
+DoesBy start a false m = Does start a (act_of a.state a.hart) m
 
--- the call has returned
-pub record Returns (a : Opened) (m : Machine) : Type 0 where
-  pub last : Opened
-  pub moves : Moves a last
-  pub closed : frames_at last.state last.hart ≡ 0
-  pub same : m ≡ flat last
+-- a step of open calls leads to this machine: the run ends where the budget is spent
+abbrev pub StepsTo : State → Opened → Machine → Type 0
+StepsTo start a m = DoesBy start a (is_budget_spent a.state) m
 
--- the run has ended for the budget
-pub record Spends (a : Opened) (m : Machine) : Type 0 where
-  pub spent : is_budget_spent a.state ≡ true
-  pub same : m ≡ with_entry (flat a) (Ended ending.Budget)
+-- calls are open still, all in the outermost one
+pub record StaysUnder (start : State) (a b : Opened) : Type 0 where
+  pub steps : StepsTo start a (whole b)
+  pub hart : b.hart ≡ a.hart
+  pub outermost : lowest b.nest ≡ lowest a.nest
+  pub goes : GoesOn b
 
--- the call was taken back for a fault
-pub record Rescues (start : State) (a : Opened) (m : Machine) : Type 0 where
-  pub fault : FaultAt
-  pub fresh : is_budget_spent a.state ≡ false
-  pub is : fault_of a.state a.hart ≡ Some fault
-  pub same : m ≡ rescued_machine start a fault
+-- no call is open: no frame is, or the run has ended
+pub record LeavesAll (start : State) (a : Opened) (m : Machine) : Type 0 where
+  pub steps : StepsTo start a m
+  pub calm : m.state.ending ≡ None → is_quiet m.state ≡ true
 
--- all that a step does, by its answer
+-- memory was wanting, and no fault was due
+pub record WasWanting (a b : Opened) : Type 0 where
+  pub same : b ≡ a
+  pub faultless : is_budget_spent a.state ≡ false → fault_of a.state a.hart ≡ None
+
+-- what a step came to
 abbrev pub GoesTo : {K S T P : _} → State → Opened → Next K S T P → Type 0
-GoesTo start a (next.Active o) = Moves a o × (0 < frames_at o.state o.hart)
-GoesTo start a (next.Quiet m) = Returns a m ⊎ (Spends a m ⊎ Rescues start a m)
-GoesTo start a (next.Memory same) =
-    (same ≡ a) × (is_budget_spent a.state ≡ false) × (fault_of a.state a.hart ≡ None)
-GoesTo start a (next.Unbuilt m pc) =
-    (m ≡ abandoned_of (flat a)) × (pc ≡ pc_at a.state a.hart) × IsUnbuilt a
+GoesTo start a (next.Active b) = StaysUnder start a b
+GoesTo start a (next.Quiet m) = LeavesAll start a m
+GoesTo start a (next.Memory b) = WasWanting a b
 
--- what a step came to is this machine: the call is open still, or its frame has closed
-abbrev pub Settles : {K S T P : _} → Opened → Next K S T P → Type 0
-Settles o (next.Active b) = (b ≡ o) × (0 < frames_at o.state o.hart)
-Settles o (next.Quiet m) = (m ≡ flat o) × (frames_at o.state o.hart ≡ 0)
-Settles o (next.Memory b) = Unit {0}
-Settles o (next.Unbuilt m pc) = ⊥
+-- the call of a point was entered
+pub record HasBegun (h : ℕ) (point : PointRef) (m : Machine) (a : Opened) : Type 0 where
+  pub legal : IsLegal m.state (Entered h point)
+  pub same : whole a ≡ with_entry m (Entered h point)
+  pub hart : a.hart ≡ h
+  pub outermost : lowest a.nest ≡ m.history
+  pub one : frames_at a.state h ≡ 1
+  pub goes : GoesOn a
 
--- the same of a call on a device
-abbrev pub SettlesCall : {K S T P : _} → Opened → Next K S T P → Type 0
-SettlesCall a (next.Memory b) = Unit {0}
-SettlesCall a result = (o : Opened) × MakesCall a o × Settles o result
-
--- the act isn't built: the machine is abandoned as it is
-abbrev pub GivesUp : {K S T P : _} → Opened → Next K S T P → Type 0
-GivesUp a (next.Unbuilt m pc) = (m ≡ abandoned_of (flat a)) × (pc ≡ pc_at a.state a.hart)
-GivesUp a (next.Memory b) = Unit {0}
-GivesUp a _ = ⊥
-
--- memory was wanting
-abbrev pub IsMemory : {K S T P : _} → Next K S T P → Type 0
-IsMemory (next.Memory b) = Unit {0}
-IsMemory _ = ⊥
-
--- the call was begun, or memory was wanting
-abbrev pub Begins : {K S T P : _} → Opened → Machine → Begin K S T P → Type 0
-Begins o m (begin.Active a) = a ≡ o
-Begins o m (begin.Memory same) = same ≡ m
+-- a call was begun, or memory was wanting
+abbrev pub Begins : {K S T P : _} → ℕ → PointRef → Machine → Begin K S T P → Type 0
+Begins h point m (begin.Active a) = HasBegun h point m a
+Begins h point m (begin.Memory same) = same ≡ m

@@ -1,90 +1,69 @@
-ghost use Rattle.std.specs.Prelude.{◌≡◌, true, false};
-ghost use Rattle.guest_words.specs.Act.{Absent, Fault};
-ghost use Rattle.guest_words.specs.declared.fault.FaultName.{FaultName};
-ghost use Rattle.guest_words.specs.Endings.{is_budget_spent};
-ghost use Rattle.guest_words.specs.declared.ending.Ending.TheVariants.{Budget};
-ghost use Rattle.run_history.specs.declared.entry.Entry.{Ended};
-ghost use Rattle.run_history.specs.Faults.{pc_at};
-ghost use Rattle.run_history.specs.Legal.{is_ordinary};
-ghost use Rattle.machine_core.specs.QuietSteps.{with_entry, IsRequest};
-ghost use Rattle.machine_core.specs.OpenSteps.{abandoned_of, act, after_act, flat, rescued_machine, GivesUp, GoesTo, IsMemory, Settles, SettlesCall};
+//! Steps of a machine with calls open.
+ghost use Rattle.std.specs.Prelude.{◌≡◌, ◌<◌, length};
+ghost use Rattle.guest_words.specs.State.{frames_at};
+ghost use Rattle.open_calls.specs.Nest.{notes_in};
+ghost use Rattle.machine_core.specs.Machine.{whole, GoesOn};
 ghost use Rattle.machine_core.specs.Nearer.{GoesNearer};
+ghost use Rattle.machine_core.specs.OpenSteps.{abandoned_of, GoesTo};
 
-use crate::came::Came;
-use crate::closing::{flatten, rescue};
-use crate::machine::{Active, Next, Quiet};
-use crate::open_step::open_step;
+use crate::machine::{Active, Core, Next, Quiet};
 use crate::origin::Origin;
-use crate::quiet_step::end;
 use edge_ports::{Port, Sink, Source};
-use guest_words::Ending;
+use undo_log::Log;
 
 impl<K: Origin, S: Source, T: Sink, P: Port> Active<K, S, T, P> {
-    /// One act of the hart. A fault takes the call back, and takes no memory.
+    /// The hart's next act, or ordinary acts in a row. A fault takes the innermost call back, and
+    /// takes no memory.
     pub fn step(self) -> Next<K, S, T, P>
         ensures goes { GoesTo K.state self result }
-        ensures spent { is_budget_spent self.state ≡ true
-            → result ≡ Next.Quiet (with_entry (flat self) (Ended Budget)) }
-        ensures fault { (name : FaultName) → is_budget_spent self.state ≡ false
-            → act self ≡ Fault name → result ≡ Next.Quiet (rescued_machine K.state self
-            (record { name = name; pc = pc_at self.state self.hart })) }
-        ensures ordinary { is_budget_spent self.state ≡ false → is_ordinary (act self) ≡ true
-            → Settles (after_act self) result }
-        ensures called { is_budget_spent self.state ≡ false → IsRequest (act self)
-            → SettlesCall self result }
-        ensures absent { is_budget_spent self.state ≡ false → act self ≡ Absent
-            → GivesUp self result }
-        ensures memory { IsMemory result → result ≡ Next.Memory self }
         ensures nearer { GoesNearer self result }
     {
-        self.advance()
-    }
-
-    fn advance(self) -> Next<K, S, T, P>
-        ensures goes { GoesTo K.state self result }
-        ensures nearer { GoesNearer self result }
-    {
-        let Active {
-            mut core,
-            mut call,
-            origin,
-        } = self;
-        match open_step(core.as_mut(), call.as_mut()) {
-            Came::Went if core.state.frames_at(call.hart) > 0 => {
-                Next::Active(Active { core, call, origin })
-            }
-            Came::Went => {
-                flatten(core.as_mut(), Box::into_inner(call), false);
-                Next::Quiet(Quiet { core, origin })
-            }
-            Came::Memory => Next::Memory(Active { core, call, origin }),
-            Came::Spent => {
-                flatten(core.as_mut(), Box::into_inner(call), false);
-                end(core.as_mut(), Ending::Budget);
-                Next::Quiet(Quiet { core, origin })
-            }
-            Came::Faulted(fault) => {
-                rescue(core.as_mut(), Box::into_inner(call), fault);
-                Next::Quiet(Quiet { core, origin })
-            }
-            Came::Unbuilt { pc } => {
-                flatten(core.as_mut(), Box::into_inner(call), true);
-                let machine = Quiet { core, origin };
-                Next::Unbuilt { machine, pc }
-            }
+        let Active { mut core } = self;
+        let parts: &mut Core<K, S, T, P> = core.as_mut();
+        if parts.inner.go(&mut parts.devices).is_err() {
+            return Next::Memory(Active { core });
         }
+        if parts.inner.is_under() {
+            return Next::Active(Active { core });
+        }
+        parts.inner.rest();
+        Next::Quiet(Quiet { core })
     }
 
     /// Lets the run stand as it is, for good.
     pub fn abandon(self) -> Quiet<K, S, T, P>
-        ensures value { result ≡ abandoned_of (flat self) }
+        ensures value { result ≡ abandoned_of (whole self) }
     {
-        let Active {
-            mut core,
-            call,
-            origin,
-        } = self;
-        flatten(core.as_mut(), Box::into_inner(call), true);
-        Quiet { core, origin }
+        let Active { mut core } = self;
+        core.as_mut().inner.abandon();
+        Quiet { core }
+    }
+
+    /// The hart whose calls are open.
+    pub fn hart(&self) -> u8
+        ensures value { result ≡ self.now.hart }
+        ensures goes { GoesOn self.now }
+    {
+        let core: &Core<K, S, T, P> = &self.core;
+        core.inner.hart()
+    }
+
+    /// How many frames it has open: one for each open call, at least 1.
+    pub fn frames(&self) -> usize
+        ensures value { result ≡ length self.now.nest.outers }
+        ensures framed { result ≡ frames_at self.now.state self.now.hart }
+        ensures some { 0 < result }
+    {
+        let core: &Core<K, S, T, P> = &self.core;
+        core.inner.depth()
+    }
+
+    /// The notes of a frame's call up to the entering of the next, the outermost frame being 0.
+    pub fn log(&self, frame: usize) -> &Log
+        requires open { frame < length self.now.nest.outers }
+        ensures notes { result.now.notes ≡ notes_in frame self.now.nest }
+    {
+        let core: &Core<K, S, T, P> = &self.core;
+        core.inner.log(frame)
     }
 }

@@ -1,22 +1,26 @@
-//! The machine: a run's state, history and devices together, with at most one call of a point open.
+//! The machine: a run's state, history and devices together, with the calls of points that a hart
+//! has open.
 #![tactic(auto)]
 
 mod active;
-mod came;
-mod closing;
-mod fresh;
+mod begin;
+mod ending;
+mod enter;
+mod failing;
+mod held;
+mod inner;
 mod limits;
 mod machine;
-mod open_step;
-mod opening;
 mod origin;
-mod parts;
 mod quiet;
-mod quiet_step;
+mod readers;
+mod room;
 mod serve;
 mod stepped;
+mod turns;
+mod under;
 
-pub use limits::Limits;
+pub use limits::{Limits, Mode};
 pub use machine::{Active, Begin, Next, Quiet};
 pub use origin::Origin;
 pub use stepped::Stepped;

@@ -6,3 +6,12 @@ pub struct Limits {
     /// The steps after which the run ends: 1 to 20,000,000.
     pub budget: u64,
 }
+
+/// By whom a machine is driven.
+#[derive(Clone, Copy, Debug, PartialEq, Eq)]
+pub enum Mode {
+    /// By one thread.
+    Lone,
+    /// By threads that take turns.
+    Shared,
+}

@@ -1,4 +1,5 @@
-ghost use Rattle.std.specs.Prelude.{◌≡◌, ◌≤◌, ◌<◌, [], true, false, length, None, IfErr, IfOk, OnErr};
+//! Steps of a machine with no call open.
+ghost use Rattle.std.specs.Prelude.{◌≡◌, ◌≤◌, ◌<◌, [], false, length, None, Some, IfErr, IfOk, OnErr};
 ghost use Rattle.guest_words.specs.declared.limits.TheConstants.{BUDGET, HARTS};
 ghost use Rattle.guest_words.specs.CallChanges.{any_other, is_live};
 ghost use Rattle.guest_words.specs.Image.{IsLoadList};
@@ -7,29 +8,22 @@ ghost use Rattle.edge_ports.specs.DevicesMatch.{DevicesMatch};
 ghost use Rattle.edge_ports.specs.Seen.{seen as told};
 ghost use Rattle.run_history.specs.After.{state_after};
 ghost use Rattle.run_history.specs.Ahead.{ahead};
-ghost use Rattle.plain_machine.specs.Seen.{seen};
 ghost use Rattle.run_history.specs.Counts.{records_of_all};
-ghost use Rattle.run_history.specs.Legal.{is_ordinary};
 ghost use Rattle.run_history.specs.Run.{IsRun};
 ghost use Rattle.machine_core.specs.Machine.{AllOpen};
-ghost use Rattle.machine_core.specs.QuietSteps.{stepped_of, CallsOn, EndsBy, HasArrived, IsBusy, IsRequest, IsStill, RunsOn};
-ghost use Rattle.machine_core.specs.OpenSteps.{entered, abandoned_of, Begins};
 ghost use Rattle.machine_core.specs.Nearer.{BeginsNearer};
+ghost use Rattle.machine_core.specs.OpenSteps.{abandoned_of, Begins};
+ghost use Rattle.machine_core.specs.QuietSteps.{stepped_of, HasArrived, IsBusy, Steps};
 
-use crate::fresh::fresh;
-use crate::limits::Limits;
-use crate::machine::{Active, Begin, Quiet};
-use crate::opening::open;
+use crate::inner::Inner;
+use crate::limits::{Limits, Mode};
+use crate::machine::{Active, Begin, Core, Quiet};
 use crate::origin::Origin;
-use crate::parts::Core;
-use crate::quiet_step::quiet_step;
 use crate::stepped::Stepped;
 use edge_ports::{Devices, Port, Sink, Source};
-use guest_words::{Ending, Image, MemoryWant, PointRef, Points};
-use plain_machine::{Plain, Seen};
+use guest_words::{Image, MemoryWant, PointRef, Points};
 use run_history::History;
 use std::alloc::Global;
-use std::marker::PhantomData;
 
 impl<K: Origin, S: Source, T: Sink, P: Port> Quiet<K, S, T, P> {
     /// A machine at its start. `harts` is 1 to 64, and `budget` is 1 to 20,000,000 steps.
@@ -63,102 +57,59 @@ impl<K: Origin, S: Source, T: Sink, P: Port> Quiet<K, S, T, P> {
         if devices.ready().is_err() {
             return Err(devices);
         }
+        let Limits { harts, budget } = limits;
         let ports = devices.ports.len() as u64;
-        let state = match Plain::start(alloc, image, points, limits.harts, ports, limits.budget) {
-            Ok(state) => state,
+        let inner = match Inner::start(alloc, image, points, harts, ports, budget) {
+            Ok(inner) => inner,
             Err(_) => return Err(devices),
         };
-        match fresh(alloc, state, devices) {
-            Ok(core) => Ok(Quiet {
-                core,
-                origin: PhantomData,
-            }),
-            Err(devices) => Err(devices),
+        match Box::new(alloc, Core { inner, devices }) {
+            Ok(core) => Ok(Quiet { core }),
+            Err(failed) => {
+                let Core { devices, .. } = failed.value;
+                Err(devices)
+            }
         }
     }
 
-    /// How the run has ended, if it has.
-    pub fn ending(&self) -> Option<Ending>
-        ensures value { result ≡ self.now.state.ending }
-    {
-        let core: &Core<S, T, P> = &self.core;
-        core.state.ending()
-    }
-
-    /// The number of entries of the history, those of insides not counted.
-    pub fn length(&self) -> usize
-        ensures value { result ≡ length self.now.history }
-    {
-        let core: &Core<S, T, P> = &self.core;
-        core.history.items().len()
-    }
-
-    /// The steps so far: instructions and calls on devices, those of rescued calls included.
-    pub fn executed(&self) -> u64
-        ensures value { result ≡ self.now.state.steps }
-    {
-        let core: &Core<S, T, P> = &self.core;
-        core.state.steps()
-    }
-
-    /// Whether it isn't to go on, though its run hasn't ended.
-    pub fn abandoned(&self) -> bool
-        ensures value { result ≡ self.now.abandoned }
-    {
-        let core: &Core<S, T, P> = &self.core;
-        core.abandoned
-    }
-
-    /// What has happened so far.
-    pub fn history(&self) -> &History
-        ensures list { result.now.entries ≡ self.now.history }
-    {
-        let core: &Core<S, T, P> = &self.core;
-        &core.history
-    }
-
-    /// One step of a hart: as many ordinary acts as it can make, at most `quantum` of them, or one
-    /// call on a device, or the ending of the run.
+    /// One step of a hart: as many ordinary acts in a row as it can make, at most `quantum` of
+    /// them, of which none but the first asks for pages; or one call on a device; or the ending of
+    /// the run.
     ///
     /// `quantum` is 1 to 4,096. After an Err all is as before, the devices too.
     pub fn step(&mut self, hart: u8, quantum: u32) -> Result<Stepped, MemoryWant>
         requires going { self.old.state.ending ≡ None }
         requires kept { self.old.abandoned ≡ false }
-        requires hart { hart < length self.old.state.slots }
+        requires hart { hart < length K.state.slots }
         requires quantum { (1 ≤ quantum) × (quantum ≤ 4096) }
-        ensures value { IfOk result (λ stepped. stepped ≡ stepped_of self.old.state hart) }
-        ensures ended { (ending : Ending) → result ≡ Ok (Stepped.Ended ending)
-            → EndsBy ending self.old self.new }
-        ensures still { IfOk result (λ stepped. IsStill stepped → self.new ≡ self.old) }
-        ensures ran { result ≡ Ok Stepped.Moved
-            → is_ordinary (seen self.old.state hart) ≡ true
-            → RunsOn hart quantum self.old self.new }
-        ensures called { result ≡ Ok Stepped.Moved → IsRequest (seen self.old.state hart)
-            → CallsOn hart self.old self.new }
+        ensures value { IfOk result (λ stepped. stepped_of self.old.state hart ≡ Some stepped) }
+        ensures steps { IfOk result (λ stepped. Steps hart quantum self.old stepped self.new) }
         ensures nearer { result ≡ Ok Stepped.Moved
             → ahead self.new.state hart < ahead self.old.state hart }
         ensures busy { any_other is_live hart K.state.slots ≡ false → IfOk result IsBusy }
         ensures err { OnErr result (self.new ≡ self.old) }
     {
-        quiet_step(self.core.as_mut(), hart, quantum)
+        let core: &mut Core<K, S, T, P> = self.core.as_mut();
+        core.inner.turn_to(hart);
+        core.inner.step(&mut core.devices, quantum)
     }
 
-    /// Opens the call of the point at which a hart stands. Takes memory for a copy of the state.
+    /// Opens the call of the point at which a hart stands, in a run that one thread drives.
     pub fn begin_lone(self, hart: u8) -> Begin<K, S, T, P>
+        requires lone { K.mode ≡ Mode.Lone }
         requires going { self.state.ending ≡ None }
         requires kept { self.abandoned ≡ false }
         requires arrived { HasArrived (stepped_of self.state hart) }
-        ensures begins { (point : PointRef) → stepped_of self.state hart ≡ Stepped.Arrived point
-            → Begins (entered self hart point) self result }
+        ensures begins { (point : PointRef)
+            → stepped_of self.state hart ≡ Some (Stepped.Arrived point)
+            → Begins hart point self result }
         ensures nearer { BeginsNearer self.state hart result }
     {
-        let Quiet { mut core, origin } = self;
-        let Seen::Arrival(point) = core.state.see(hart) else {
-            unreachable!()
-        };
-        match open(core.as_mut(), hart, point) {
-            Ok(call) => Begin::Active(Active { core, call, origin }),
-            Err(_) => Begin::Memory(Quiet { core, origin }),
+        let Quiet { mut core } = self;
+        core.as_mut().inner.turn_to(hart);
+        match core.as_mut().inner.begin() {
+            Ok(()) => Begin::Active(Active { core }),
+            Err(_) => Begin::Memory(Quiet { core }),
         }
     }
 
@@ -167,7 +118,7 @@ impl<K: Origin, S: Source, T: Sink, P: Port> Quiet<K, S, T, P> {
         requires going { self.old.state.ending ≡ None }
         ensures value { self.new ≡ abandoned_of self.old }
     {
-        self.core.as_mut().abandoned = true;
+        self.core.as_mut().inner.abandon();
     }
 
     /// What has happened, the points at its end, each with what is left of its rescues, and the
@@ -181,13 +132,9 @@ impl<K: Origin, S: Source, T: Sink, P: Port> Quiet<K, S, T, P> {
         ensures matches { DevicesMatch K.devices (told S.end T.end P.end result.2) 0
             (records_of_all result.0.entries) }
     {
-        let Quiet { core, origin: _ } = self;
-        let Core {
-            history,
-            state,
-            devices,
-            ..
-        } = Box::into_inner(core);
-        (history, state.into_points(), devices)
+        let Quiet { core } = self;
+        let Core { inner, devices } = Box::into_inner(core);
+        let (history, points) = inner.into_parts();
+        (history, points, devices)
     }
 }

@@ -242,6 +242,16 @@ impl Calls {
         log.move_onto(&mut self.top.log);
     }
 
+    /// Forgets the notes, where no call is open that could be taken back by them. Takes no memory.
+    pub fn forget_notes(&mut self)
+        requires none { self.old.nest.outers ≡ [] }
+        ensures same { self.new ≡ record self.old {
+          nest = record self.old.nest { notes = [] };
+        } }
+    {
+        self.top.log.clear();
+    }
+
     /// The innermost call goes, and what encloses it has room for an entry. Takes no memory.
     pub fn take_back(&mut self) -> Taken
         requires open { 0 < length self.old.nest.outers }

@@ -1,114 +1,82 @@
 -- What is answered, by what was prepared and how a run came to its end.
-use Rattle.std.proofs.Common.{◌≡◌, ◌⊎◌, inl, inr, ℕ, List, [], ◌∷◌, ◌++◌, length, false, Option, Some, None, Result, Ok, Err, is_err, refl, ap, sym, ◌∙◌, subst}
+use Rattle.std.proofs.Common.{◌≡◌, inl, inr, ℕ, List, length, false, Option, Some, None, Result, Ok, Err, is_err, refl, ap, sym, ◌∙◌, subst}
 use Rattle.std.specs.Prelude.{unwrap_or}
 use Rattle.std.specs.Result.{result_err}
 use Rattle.std.proofs.lemmas.Bool.{both_ways}
-use Rattle.edge_ports.specs.DevicesMatch.{DevicesMatch}
-use Rattle.run_history.specs.Counts.{records_of_all}
-use Rattle.guest_words.specs.declared.ending.Ending.{Ending}
-use Rattle.guest_words.specs.declared.point.Point.{Point}
-use Rattle.guest_words.specs.State.{State}
 use Rattle.edge_ports.specs.Asked.{Asked}
-use Rattle.edge_ports.specs.End.{End, Came}
+use Rattle.edge_ports.specs.DevicesMatch.{DevicesMatch}
+use Rattle.edge_ports.specs.End.{End}
 use Rattle.edge_ports.specs.Seen.{Seen}
 use Rattle.edge_ports.specs.Shelves.{Shelved}
-use Rattle.run_history.specs.declared.entry.Entry.{Entry}
-use Rattle.run_history.specs.Run.{EndsOnce}
+use Rattle.guest_words.specs.declared.ending.Ending.{Ending}
+use Rattle.guest_words.specs.declared.point.Point.{Point}
 use Rattle.rescue_report.specs.Report.{report_of}
-use Rattle.rescue_run.specs.declared.run_end.RunEnd.{RunEnd}
-use Rattle.rescue_run.specs.declared.run_end.RunEnd.TheVariants as end
+use Rattle.run_history.specs.Counts.{records_of_all}
+use Rattle.run_history.specs.declared.entry.Entry.{Entry}
 use Rattle.rescue_run.specs.declared.start.Start.{Start}
+use Rattle.rescue_run.specs.declared.task.LoadTask.{LoadTask}
+use Rattle.rescue_run.specs.declared.task.Task.{Task}
+use Rattle.rescue_run.specs.declared.task.Task.TheVariants as task
 use Rattle.rescue_run.specs.declared.outcome.Outcome.{Outcome}
-use Rattle.rescue_run.specs.declared.outcome.Outcome.TheVariants.{Words, PortCount, Shelf, TooLong, Elf, Symbols, Points, Unbuilt, Report, Ended, Memory}
-use Rattle.rescue_run.specs.declared.outcome.Unbuilt.TheVariants.{Act}
-use Rattle.rescue_run.specs.Headline.{ComesTo, Headline, Told}
+use Rattle.rescue_run.specs.declared.outcome.Outcome.TheVariants.{Memory}
+use Rattle.rescue_run.specs.Headline.{ComesTo, Headline, IsLoadRun, IsRunOn, Told}
 use Rattle.rescue_run.specs.Lines.{line_of}
+use Rattle.rescue_run.specs.Load.{load_summary, IsLoadTo}
 use Rattle.rescue_run.specs.Prepares.{Prepares}
-use Rattle.rescue_run.specs.Puts.{IsSaid, IsTold, PutsEnd, PutsReport, ReportsRun}
+use Rattle.rescue_run.specs.Puts.{IsSaid, IsTold, PutsText}
 use Rattle.rescue_run.specs.Reads.{IsAskedFor, IsOrMemory}
-use Rattle.rescue_run.specs.Runs.{outcome_of, start_of_run, Explains, IsRunTo}
+use Rattle.rescue_run.specs.Runs.{outcome_of, start_of_run, IsRunTo}
 use Rattle.rescue_run.specs.Statuses.{status_of}
-use Rattle.rescue_run.specs.Top.{IsRunTold}
-use Rattle.rescue_run.specs.Words.{loads_for, start_for}
+use Rattle.rescue_run.specs.Words.{loads_for, task_for}
+use Rattle.rescue_run.proofs.Loads.{load_told}
+use Rattle.rescue_run.proofs.Putting.{told_of}
 
--- a run, and what the report sink was given for it
-abbrev pub IsToldOf : State → List Entry → List Point → Outcome → End → End → Type 0
-IsToldOf start entries points outcome old new = IsRunTo start entries points outcome × ReportsRun entries points outcome old new
+-- what is told where no machine was started
+abbrev still_told : Outcome → Seen → Told
+still_told outcome devices = record { status = status_of outcome; outcome = outcome; history = None; points = None; devices = devices }
 
-with_outcome : (start : State) (entries : List Entry) (points : List Point) (a b : Outcome) → IsRunTo start entries points a
-    → Explains start entries b → IsRunTo start entries points b
-with_outcome start entries points a b run explains = record { run = run.run; last = run.last; explains = explains }
+-- and of a run
+abbrev history_told : Outcome → List Entry → List Point → Seen → Told
+history_told outcome entries points devices =
+    record { status = status_of outcome; outcome = outcome; history = Some entries; points = Some points; devices = devices }
 
-told_report : (start : State) (entries : List Entry) (points : List Point) (x : Ending) (outcome : Outcome) (old new : End)
-    → IsRunTo start entries points (Ended x) → PutsReport x entries points outcome old new → IsToldOf start entries points outcome old new
-told_report start entries points x (Words fault) old new run puts = absurd puts
-told_report start entries points x (PortCount named handed) old new run puts = absurd puts
-told_report start entries points x (Shelf w) old new run puts = absurd puts
-told_report start entries points x (TooLong w size) old new run puts = absurd puts
-told_report start entries points x (Elf fault offset) old new run puts = absurd puts
-told_report start entries points x (Symbols fault offset) old new run puts = absurd puts
-told_report start entries points x (Points fault place) old new run puts = absurd puts
-told_report start entries points x (Unbuilt what) old new run puts = absurd puts
-told_report start entries points x (Report y) old new run puts =
-    (with_outcome start entries points (Ended x) (Report y) run (subst (λ z. EndsOnce entries z) (sym puts.0) run.explains), puts.1)
-told_report start entries points x (Ended y) old new run puts = (
-  with_outcome start entries points (Ended x) (Ended y) run (subst (λ z. EndsOnce entries z) (sym puts.0) run.explains),
-  subst (λ z. Came old.given (report_of entries points z) new.given) (sym puts.0) puts.1,
-)
-told_report start entries points x Memory old new run puts = (with_outcome start entries points (Ended x) Memory run tt, puts)
-
--- an outcome with a line, or want of memory for it
-told_memory : (start : State) (entries : List Entry) (points : List Point) (a outcome : Outcome) (old new : End)
-    → IsRunTo start entries points a → outcome ≡ Memory → IsTold (line_of outcome) old new → IsToldOf start entries points outcome old new
-told_memory start entries points a outcome old new run memory told =
-    subst (λ o. IsTold (line_of o) old new → IsToldOf start entries points o old new) (sym memory)
-    (λ t. (with_outcome start entries points a Memory run tt, t)) told
-
-told_unbuilt : (start : State) (entries : List Entry) (points : List Point) (pc : ℕ) (outcome : Outcome) (old new : End)
-    → IsRunTo start entries points (Unbuilt (Act pc)) → IsSaid (Unbuilt (Act pc)) outcome → IsTold (line_of outcome) old new
-    → IsToldOf start entries points outcome old new
-told_unbuilt start entries points pc outcome old new run (inl is) told =
-    subst (λ o. IsTold (line_of o) old new → IsToldOf start entries points o old new) (sym is) (λ t. (run, t)) told
-told_unbuilt start entries points pc outcome old new run (inr memory) told =
-    told_memory start entries points (Unbuilt (Act pc)) outcome old new run memory told
-
-told_wanting : (start : State) (entries : List Entry) (points : List Point) (outcome : Outcome) (old new : End)
-    → IsRunTo start entries points Memory → IsSaid Memory outcome → IsTold (line_of outcome) old new
-    → IsToldOf start entries points outcome old new
-told_wanting start entries points outcome old new run (inl is) told = told_memory start entries points Memory outcome old new run is told
-told_wanting start entries points outcome old new run (inr is) told = told_memory start entries points Memory outcome old new run is told
-
-pub told_end : (start : State) (entries : List Entry) (points : List Point) (e : RunEnd) (outcome : Outcome) (old new : End)
-    → IsRunTo start entries points (outcome_of e) → PutsEnd e entries points outcome old new → IsToldOf start entries points outcome old new
-told_end start entries points (end.Ended x) outcome old new run puts = told_report start entries points x outcome old new run puts
-told_end start entries points (end.Unbuilt pc) outcome old new run puts = told_unbuilt start entries points pc outcome old new run puts.0 puts.1
-told_end start entries points end.Memory outcome old new run puts = told_wanting start entries points outcome old new run puts.0 puts.1
-
--- a command that nothing runs for
+-- a command that nothing is done for
 
 -- what was prepared is want of memory
-abbrev IsWanting : Result Start Outcome → Type 0
+abbrev IsWanting : Result Task Outcome → Type 0
 IsWanting r = r ≡ Err Memory
 
 wanted : (refusal : Outcome) → IsWanting (Err refusal) → refusal ≡ Memory
-wanted refusal is = ap (λ (r : Result Start Outcome). unwrap_or (result_err r) refusal) is
+wanted refusal is = ap (λ (r : Result Task Outcome). unwrap_or (result_err r) refusal) is
 
-not_wanting : (start : Start) → IsWanting (Ok start) → ⊥
-not_wanting start is = both_ways false refl (ap is_err is)
+not_wanting : (t : Task) → IsWanting (Ok t) → ⊥
+not_wanting t is = both_ways false refl (ap is_err is)
 
-memory_comes : (r : Result Start Outcome) (ports : ℕ) (outcome : Outcome) (devices : Seen) → outcome ≡ Memory
-    → ComesTo r ports (record { status = status_of outcome; outcome = outcome; history = None; points = None; devices = devices })
-memory_comes (Err refusal) ports outcome devices memory = record { outcome = inr memory; history = refl; points = refl }
-memory_comes (Ok start) ports outcome devices memory = memory
+-- want of memory is an answer to each
+memory_comes : (r : Result Task Outcome) (handed : Seen) (sink sink' : End) → IsTold (line_of Memory) sink sink'
+    → ComesTo r handed sink sink' (still_told Memory handed)
+memory_comes (Err refusal) handed sink sink' line =
+    record { outcome = inr refl; line = line; still = record { history = refl; points = refl; devices = refl } }
+memory_comes (Ok (task.Run start)) handed sink sink' line = record { runs = refl; devices = refl; report = line }
+memory_comes (Ok (task.List symbols)) handed sink sink' line =
+    record { lists = line; still = record { history = refl; points = refl; devices = refl } }
+memory_comes (Ok (task.Load load)) handed sink sink' line = record { runs = refl; summary = line; devices = refl }
 
-comes_by : (r : Result Start Outcome) (refusal : Outcome) (ports : ℕ) (outcome : Outcome) (devices : Seen)
-    → IsOrMemory (Err refusal) r → IsSaid refusal outcome
-    → ComesTo r ports (record { status = status_of outcome; outcome = outcome; history = None; points = None; devices = devices })
-comes_by r refusal ports outcome devices (inl is) said =
-    subst (λ x. ComesTo x ports (record { status = status_of outcome; outcome = outcome; history = None; points = None; devices = devices })) is
-    (record { outcome = said; history = refl; points = refl })
-comes_by r refusal ports outcome devices (inr is) (inl same) = memory_comes r ports outcome devices (same ∙ wanted refusal is)
-comes_by r refusal ports outcome devices (inr is) (inr memory) = memory_comes r ports outcome devices memory
+memory_said : (r : Result Task Outcome) (outcome : Outcome) (handed : Seen) (sink sink' : End) → outcome ≡ Memory
+    → IsTold (line_of outcome) sink sink' → ComesTo r handed sink sink' (still_told outcome handed)
+memory_said r outcome handed sink sink' is line =
+    subst (λ o. IsTold (line_of o) sink sink' → ComesTo r handed sink sink' (still_told o handed)) (sym is)
+    (memory_comes r handed sink sink') line
+
+comes_by : (r : Result Task Outcome) (refusal outcome : Outcome) (handed : Seen) (sink sink' : End)
+    → IsOrMemory (Err refusal) r → IsSaid refusal outcome → IsTold (line_of outcome) sink sink'
+    → ComesTo r handed sink sink' (still_told outcome handed)
+comes_by r refusal outcome handed sink sink' (inl is) said line =
+    subst (λ x. ComesTo x handed sink sink' (still_told outcome handed)) is
+    (record { outcome = said; line = line; still = record { history = refl; points = refl; devices = refl } })
+comes_by r refusal outcome handed sink sink' (inr is) (inl same) line =
+    memory_said r outcome handed sink sink' (same ∙ wanted refusal is) line
+comes_by r refusal outcome handed sink sink' (inr is) (inr memory) line = memory_said r outcome handed sink sink' memory line
 
 asked_by : (refusal outcome : Outcome) (old new loads : List Asked) → IsSaid refusal outcome
     → IsAskedFor (IsWanting (Err refusal)) old new loads → IsAskedFor (outcome ≡ Memory) old new loads
@@ -118,54 +86,71 @@ asked_by refusal outcome old new loads (inr memory) (inr wants) = inr (memory, w
 
 pub headline_refused : (words : List (List ℕ)) (old new : Shelved) (handed : Seen) (sink sink' : End) (ports : ℕ) (refusal outcome : Outcome)
     → ports ≡ length handed.ports → Prepares words ports old new (Err refusal) → IsSaid refusal outcome → IsTold (line_of outcome) sink sink'
-    → Headline words old new handed sink sink' (record { status = status_of outcome; outcome = outcome; history = None; points = None; devices = handed })
+    → Headline words old new handed sink sink' (still_told outcome handed)
 headline_refused words old new handed sink sink' ports refusal outcome count prepared said told =
     let p : Prepares words (length handed.ports) old new (Err refusal) = subst (λ n. Prepares words n old new (Err refusal)) count prepared in record {
       answers = p.answers;
       answered = p.answered;
       asked = asked_by refusal outcome old.asked new.asked (loads_for words (length handed.ports) p.answers) said p.asked;
-      outcome = comes_by (start_for words (length handed.ports) p.answers) refusal (length handed.ports) outcome handed p.value said;
+      comes = comes_by (task_for words (length handed.ports) p.answers) refusal outcome handed sink sink' p.value said told;
       status = refl;
-      devices = refl;
-      report = told;
     }
 
--- a command that something runs for
+-- a command that something is done for
 
-pub run_told : (start : State) (handed : Seen) (sink sink' : End) (entries : List Entry) (points : List Point) (e : RunEnd) (outcome : Outcome) (devices : Seen)
-    → IsRunTo start entries points (outcome_of e) → DevicesMatch handed devices 0 (records_of_all entries) → PutsEnd e entries points outcome sink sink'
-    → IsRunTold start handed sink sink' (record { status = status_of outcome; outcome = outcome; history = Some entries; points = Some points; devices = devices })
-run_told start handed sink sink' entries points e outcome devices run matches puts =
-    let t = told_end start entries points e outcome sink sink' run puts in record {
-      status = refl;
+pub wanting_run : (start : Start) (handed : Seen) (sink sink' : End) (outcome : Outcome) → IsSaid Memory outcome → IsTold (line_of outcome) sink sink'
+    → IsRunOn start handed sink sink' (still_told outcome handed)
+wanting_run start handed sink sink' outcome (inl is) line = memory_said (Ok (task.Run start)) outcome handed sink sink' is line
+wanting_run start handed sink sink' outcome (inr is) line = memory_said (Ok (task.Run start)) outcome handed sink sink' is line
+
+pub wanting_load : (load : LoadTask) (handed : Seen) (sink sink' : End) (outcome : Outcome) → IsSaid Memory outcome → IsTold (line_of outcome) sink sink'
+    → IsLoadRun load handed sink sink' (still_told outcome handed)
+wanting_load load handed sink sink' outcome (inl is) line = memory_said (Ok (task.Load load)) outcome handed sink sink' is line
+wanting_load load handed sink sink' outcome (inr is) line = memory_said (Ok (task.Load load)) outcome handed sink sink' is line
+
+pub run_told : (start : Start) (handed : Seen) (count : ℕ) (sink sink' : End) (entries : List Entry) (points : List Point) (ending : Option Ending)
+    (outcome : Outcome) (devices : Seen) → count ≡ length handed.ports
+    → IsRunTo (start_of_run start count) start.seed entries points (outcome_of ending)
+    → DevicesMatch handed devices 0 (records_of_all entries) → PutsText (report_of entries points) ending outcome sink sink'
+    → IsRunOn start handed sink sink' (history_told outcome entries points devices)
+run_told start handed count sink sink' entries points ending outcome devices same run matches puts =
+    let run' : IsRunTo (start_of_run start (length handed.ports)) start.seed entries points (outcome_of ending) =
+    subst (λ n. IsRunTo (start_of_run start n) start.seed entries points (outcome_of ending)) same run in
+    let t = told_of (start_of_run start (length handed.ports)) start.seed entries points (report_of entries points) ending outcome sink sink' run' puts in record {
       runs = t.0;
       devices = matches;
       report = t.1;
     }
 
-asked_run : (start : Start) (wanting : Type 0) (old new loads : List Asked) → IsAskedFor (IsWanting (Ok start)) old new loads → IsAskedFor wanting old new loads
-asked_run start wanting old new loads (inl is) = inl is
-asked_run start wanting old new loads (inr wants) = absurd (not_wanting start wants.0)
+pub load_run_told : (load : LoadTask) (handed : Seen) (sink sink' : End) (entries : List Entry) (points : List Point) (ending : Option Ending)
+    (outcome : Outcome) → IsLoadTo load entries points (outcome_of ending) → PutsText (load_summary load entries points) ending outcome sink sink'
+    → IsLoadRun load handed sink sink' (history_told outcome entries points handed)
+load_run_told load handed sink sink' entries points ending outcome run puts =
+    let t = load_told load entries points ending outcome sink sink' run puts in record {
+      runs = t.0;
+      summary = t.1;
+      devices = refl;
+    }
 
-comes_run : (r : Result Start Outcome) (start : Start) (ports : ℕ) (told : Told) → IsOrMemory (Ok start) r
-    → ComesTo (Ok start) ports told → ComesTo r ports told
-comes_run r start ports told (inl is) comes = subst (λ x. ComesTo x ports told) is comes
-comes_run r start ports told (inr is) comes = absurd (not_wanting start is)
+asked_run : (t : Task) (wanting : Type 0) (old new loads : List Asked) → IsAskedFor (IsWanting (Ok t)) old new loads → IsAskedFor wanting old new loads
+asked_run t wanting old new loads (inl is) = inl is
+asked_run t wanting old new loads (inr wants) = absurd (not_wanting t wants.0)
 
-pub headline_run : (words : List (List ℕ)) (old new : Shelved) (handed : Seen) (sink sink' : End) (ports count : ℕ) (start : Start) (told : Told)
-    → ports ≡ length handed.ports → count ≡ length handed.ports → Prepares words ports old new (Ok start)
-    → IsRunTold (start_of_run start count) handed sink sink' told → Headline words old new handed sink sink' told
-headline_run words old new handed sink sink' ports count start told is same prepared ran =
-    let p : Prepares words (length handed.ports) old new (Ok start) = subst (λ n. Prepares words n old new (Ok start)) is prepared in
-    let run : IsRunTold (start_of_run start (length handed.ports)) handed sink sink' told =
-    subst (λ n. IsRunTold (start_of_run start n) handed sink sink' told) same ran in record {
+comes_run : (r : Result Task Outcome) (t : Task) (handed : Seen) (sink sink' : End) (told : Told) → IsOrMemory (Ok t) r
+    → ComesTo (Ok t) handed sink sink' told → ComesTo r handed sink sink' told
+comes_run r t handed sink sink' told (inl is) comes = subst (λ x. ComesTo x handed sink sink' told) is comes
+comes_run r t handed sink sink' told (inr is) comes = absurd (not_wanting t is)
+
+pub headline_done : (words : List (List ℕ)) (old new : Shelved) (handed : Seen) (sink sink' : End) (ports : ℕ) (t : Task) (told : Told)
+    → ports ≡ length handed.ports → Prepares words ports old new (Ok t) → told.status ≡ status_of told.outcome
+    → ComesTo (Ok t) handed sink sink' told → Headline words old new handed sink sink' told
+headline_done words old new handed sink sink' ports t told is prepared status comes =
+    let p : Prepares words (length handed.ports) old new (Ok t) = subst (λ n. Prepares words n old new (Ok t)) is prepared in record {
       answers = p.answers;
       answered = p.answered;
-      asked = asked_run start (told.outcome ≡ Memory) old.asked new.asked (loads_for words (length handed.ports) p.answers) p.asked;
-      outcome = comes_run (start_for words (length handed.ports) p.answers) start (length handed.ports) told p.value run.runs;
-      status = run.status;
-      devices = run.devices;
-      report = run.report;
+      asked = asked_run t (told.outcome ≡ Memory) old.asked new.asked (loads_for words (length handed.ports) p.answers) p.asked;
+      comes = comes_run (task_for words (length handed.ports) p.answers) t handed sink sink' told p.value comes;
+      status = status;
     }
 
 -- the headline at equal devices

@@ -6,11 +6,16 @@ use Rattle.std.proofs.lemmas.Bool.{both_ways}
 use Rattle.std.proofs.lemmas.Slice.Eq.{bytes_eq-Decides}
 use Rattle.std.specs.Result.{result_err, result_map_both}
 use Rattle.std.proofs.lemmas.List.{append-nil}
-use Rattle.edge_ports.specs.Asked.{Asked}
+use Rattle.edge_ports.specs.Asked.{Asked, Loaded as Load'}
+use Rattle.edge_ports.specs.declared.shelf.ShelfFault.TheVariants as shelf
+use Rattle.elf_symbols.specs.declared.symbol.Symbol.{Symbol}
+use Rattle.guest_words.specs.declared.elf_fault.ElfFault.{ElfFault}
+use Rattle.guest_words.specs.Image.{first_fault}
 use Rattle.edge_ports.specs.Shelves.{Shelved}
 use Rattle.machine_core.specs.declared.limits.Limits.{Limits}
 use Rattle.program_words.specs.Words.{command_of, first_word_fault, reading_of}
 use Rattle.program_words.specs.declared.command.Command.{Command}
+use Rattle.program_words.specs.declared.command.Command.TheVariants as command
 use Rattle.program_words.specs.declared.words_fault.WordsFault.{WordsFault}
 use Rattle.program_words.specs.declared.words_fault.WordsFault.TheVariants as words_fault
 use Rattle.rescue_run.specs.Outcomes.{of_words_fault}
@@ -18,15 +23,16 @@ use Rattle.program_words.specs.declared.word_fault.WordFault.{WordFault}
 use Rattle.program_words.specs.declared.word_fault.WordFault.TheVariants.{Threads}
 use Rattle.rescue_run.specs.declared.files.Files.{Files}
 use Rattle.rescue_run.specs.declared.start.Loaded.{Loaded}
-use Rattle.rescue_run.specs.declared.start.Start.{Start}
+use Rattle.rescue_run.specs.declared.task.Task.{Task}
 use Rattle.rescue_run.specs.declared.outcome.Outcome.{Outcome}
 use Rattle.rescue_run.specs.declared.outcome.Outcome.TheVariants.{PortCount, Words, Memory}
-use Rattle.rescue_run.specs.Loading.{Answers}
-use Rattle.rescue_run.specs.Prepares.{AreAnswersFor, Prepares, PreparesCommand, PreparesCounted, StartsFiles}
+use Rattle.rescue_run.specs.declared.outcome.Which.TheVariants as which
+use Rattle.rescue_run.specs.Loading.{later_loads, points_load_if, Answers, Read}
+use Rattle.rescue_run.specs.Prepares.{AreAnswersFor, ListsFile, Prepares, PreparesCommand, PreparesCounted, StartsFiles}
 use Rattle.rescue_run.specs.Reads.{AreAnswers, IsAskedFor, IsOrMemory}
-use Rattle.rescue_run.specs.ReadsFiles.{ReadsFiles}
-use Rattle.rescue_run.specs.Words.{files_of, loads_by, loads_by_files, loads_for, loads_read, needs_threads, ports_named, start_by, start_for, start_read, with_limits}
-use Rattle.rescue_run.proofs.Shelving.{none_answered, no_answers, take_none}
+use Rattle.rescue_run.specs.ReadsFiles.{ReadsFiles, ReadsSymbols}
+use Rattle.rescue_run.specs.Words.{files_of, loads_by, loads_by_files, loads_for, loads_read, needs_threads, ports_named, run_with, task_by, task_read, list_with}
+use Rattle.rescue_run.proofs.Shelving.{answer_among, follows_same, none_answered, no_answers, take_none}
 
 -- an answer that a function takes over
 
@@ -38,13 +44,44 @@ value_on : {A B : Type 0} (f : Result A Outcome → Result B Outcome) (r value :
 value_on f r value keeps (inl is) = inl (ap f is)
 value_on f r value keeps (inr memory) = inr (ap f memory ∙ keeps)
 
-pub starts_files : (f : Files) (limits : Limits) (old new : Shelved) (r : Result Loaded Outcome) → ReadsFiles f old new r
-    → StartsFiles f limits old new (with_limits limits r)
-starts_files f limits old new r reads = record {
+pub starts_files : (f : Files) (limits : Limits) (seed : ℕ) (old new : Shelved) (r : Result Loaded Outcome) → ReadsFiles f old new r
+    → StartsFiles f limits seed old new (run_with limits seed r)
+starts_files f limits seed old new r reads = record {
   answers = reads.answers;
   answered = reads.answered;
-  asked = asked_on old.asked new.asked _ (λ memory. ap (with_limits limits) memory) reads.asked;
-  value = value_on (with_limits limits) r _ refl reads.value;
+  asked = asked_on old.asked new.asked _ (λ memory. ap (run_with limits seed) memory) reads.asked;
+  value = value_on (run_with limits seed) r _ refl reads.value;
+}
+
+-- the list of the symbols of a program
+
+pub lists_file : (name : List ℕ) (old new : Shelved) (r : Result (List Symbol) Outcome) → ReadsSymbols name old new r
+    → ListsFile name old new (list_with r)
+lists_file name old new r reads = record {
+  answer = reads.answer;
+  loads = reads.loads;
+  value = value_on list_with r _ refl reads.value;
+}
+
+no_points_if : (o : Option (ElfFault × ℕ)) (answer : Read) → points_load_if o None answer ≡ []
+no_points_if None answer = refl
+no_points_if (Some broken) answer = refl
+
+no_later : (program answer : Read) → later_loads None program answer ≡ []
+no_later (Ok program) answer = no_points_if (first_fault program) answer
+no_later (Err fault) answer = refl
+
+pub prepares_list : (name : List ℕ) (old new : Shelved) (r : Result Task Outcome) → ListsFile name old new r
+    → PreparesCommand (command.List name) old new r
+prepares_list name old new r lists = record {
+  answers = record { program = lists.answer; points = Err shelf.Memory };
+  answered = record {
+    program = answer_among which.Program name old old new new lists.answer (follows_same old) lists.loads (follows_same new);
+    points = tt;
+  };
+  asked = inl (lists.loads.asked
+      ∙ ap (λ (xs : List Asked). old.asked ++ Load' name lists.answer ∷ xs) (sym (no_later lists.answer (Err shelf.Memory))));
+  value = lists.value;
 }
 
 -- words that want threads, and words that are no command
@@ -61,21 +98,21 @@ prepares_threads words handed s threads = record {
   answers = no_answers;
   answered = no_words_answered words s;
   asked = inl (subst (λ b. s.asked ≡ s.asked ++ (if b then [] else loads_read (command_of words) handed no_answers)) (sym threads) (nothing_asked s.asked));
-  value = inl (subst (λ b. Err (Words Threads) ≡ (if b then Err (Words Threads) else start_read (command_of words) handed no_answers)) (sym threads) refl);
+  value = inl (subst (λ b. Err (Words Threads) ≡ (if b then Err (Words Threads) else task_read (command_of words) handed no_answers)) (sym threads) refl);
 }
 
 -- the words are read, on one thread
-prepares_read : (words : List (List ℕ)) (handed : ℕ) (old new : Shelved) (result : Result Start Outcome) (answers : Answers) (reading : Result Command WordFault)
+prepares_read : (words : List (List ℕ)) (handed : ℕ) (old new : Shelved) (result : Result Task Outcome) (answers : Answers) (reading : Result Command WordFault)
     → needs_threads words ≡ false → command_of words ≡ reading → AreAnswersFor words old new answers
     → IsAskedFor (result ≡ Err Memory) old.asked new.asked (loads_read reading handed answers)
-    → IsOrMemory result (start_read reading handed answers) → Prepares words handed old new result
+    → IsOrMemory result (task_read reading handed answers) → Prepares words handed old new result
 prepares_read words handed old new result answers reading alone is answered asked value = record {
   answers = answers;
   answered = answered;
   asked = subst (λ b. IsAskedFor (result ≡ Err Memory) old.asked new.asked (if b then [] else loads_read (command_of words) handed answers)) (sym alone)
       (subst (λ r. IsAskedFor (result ≡ Err Memory) old.asked new.asked (loads_read r handed answers)) (sym is) asked);
-  value = subst (λ b. IsOrMemory result (if b then Err (Words Threads) else start_read (command_of words) handed answers)) (sym alone)
-      (subst (λ r. IsOrMemory result (start_read r handed answers)) (sym is) value);
+  value = subst (λ b. IsOrMemory result (if b then Err (Words Threads) else task_read (command_of words) handed answers)) (sym alone)
+      (subst (λ r. IsOrMemory result (task_read r handed answers)) (sym is) value);
 }
 
 refused_reading : {A B : Type 0} (r : Result A WordFault) (f : A → B) (fault : WordFault) → result_err r ≡ Some fault
@@ -128,8 +165,18 @@ needs_by (first ∷ rest) b iff =
     (λ y. (bytes_eq-Decides first (codes "run")).1 (ap (λ o. unwrap_or o first) (iff.0 y)))
     (λ y. iff.1 (ap Some ((bytes_eq-Decides first (codes "run")).0 y)))
 
+-- a load, which brings its own files
+pub prepares_load : (number : ℕ) (s : Shelved) (r : Result Task Outcome) → IsOrMemory r (task_by (command.Load number) no_answers)
+    → PreparesCommand (command.Load number) s s r
+prepares_load number s r value = record {
+  answers = no_answers;
+  answered = tt;
+  asked = inl (nothing_asked s.asked);
+  value = value;
+}
+
 -- a command that no file is read for
-pub prepares_nothing : (c : Command) (s : Shelved) (outcome : Outcome) → files_of c ≡ None → start_by c no_answers ≡ Err outcome
+pub prepares_nothing : (c : Command) (s : Shelved) (outcome : Outcome) → files_of c ≡ None → task_by c no_answers ≡ Err outcome
     → PreparesCommand c s s (Err outcome)
 prepares_nothing c s outcome none gives = record {
   answers = no_answers;
@@ -150,18 +197,18 @@ counted_other c handed s named is other =
       answers = no_answers;
       answered = no_files_answered (files_of c) s;
       asked = inl (subst (λ b. s.asked ≡ s.asked ++ (if b then loads_by c no_answers else [])) (sym apart) (nothing_asked s.asked));
-      value = inl (subst (λ b. Err (PortCount named handed) ≡ (if b then start_by c no_answers else Err (PortCount (ports_named c) handed))) (sym apart)
+      value = inl (subst (λ b. Err (PortCount named handed) ≡ (if b then task_by c no_answers else Err (PortCount (ports_named c) handed))) (sym apart)
           (ap (λ n. Err (PortCount n handed)) is));
     }
 
-pub counted_same : (c : Command) (handed : ℕ) (old new : Shelved) (result : Result Start Outcome) (named : ℕ) → named ≡ ports_named c
+pub counted_same : (c : Command) (handed : ℕ) (old new : Shelved) (result : Result Task Outcome) (named : ℕ) → named ≡ ports_named c
     → (named == handed) ≡ true → PreparesCommand c old new result → PreparesCounted c handed old new result
 counted_same c handed old new result named is equal p =
     let same : (ports_named c == handed) ≡ true = subst (λ n. (n == handed) ≡ true) is equal in record {
       answers = p.answers;
       answered = p.answered;
       asked = subst (λ b. IsAskedFor (result ≡ Err Memory) old.asked new.asked (if b then loads_by c p.answers else [])) (sym same) p.asked;
-      value = subst (λ b. IsOrMemory result (if b then start_by c p.answers else Err (PortCount (ports_named c) handed))) (sym same) p.value;
+      value = subst (λ b. IsOrMemory result (if b then task_by c p.answers else Err (PortCount (ports_named c) handed))) (sym same) p.value;
     }
 
 same_command : (r : Result Command WordFault) (c d : Command) → r ≡ Ok c → r ≡ Ok d → c ≡ d
@@ -171,7 +218,7 @@ given_files : (o : Option Files) (f : Files) (P : Files → Type 0) → IfSome o
 given_files o f P holds is = subst (λ x. IfSome x P) is holds
 
 -- the command is prepared
-pub prepares_command : (words : List (List ℕ)) (handed : ℕ) (old new : Shelved) (result : Result Start Outcome) (c : Command) → needs_threads words ≡ false
+pub prepares_command : (words : List (List ℕ)) (handed : ℕ) (old new : Shelved) (result : Result Task Outcome) (c : Command) → needs_threads words ≡ false
     → command_of words ≡ Ok c → PreparesCounted c handed old new result → Prepares words handed old new result
 prepares_command words handed old new result c alone is p =
     prepares_read words handed old new result p.answers (Ok c) alone is

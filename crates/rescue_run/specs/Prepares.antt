@@ -1,41 +1,50 @@
 -- What is prepared for a command: the shelf's answers, what it was asked for, and what they give.
 use Rattle.std.specs.Prelude.{◌≡◌, ℕ, List, Option, Some, None, Result, Ok, Err, IfSome}
-use Rattle.edge_ports.specs.Shelves.{Shelved}
+use Rattle.edge_ports.specs.Shelves.{Loads, Shelved}
 use Rattle.machine_core.specs.declared.limits.Limits.{Limits}
 use Rattle.program_words.specs.Words.{command_of}
 use Rattle.program_words.specs.declared.command.Command.{Command}
 use Rattle.rescue_run.specs.declared.files.Files.{Files}
-use Rattle.rescue_run.specs.declared.start.Start.{Start}
+use Rattle.rescue_run.specs.declared.task.Task.{Task}
 use Rattle.rescue_run.specs.declared.outcome.Outcome.{Outcome}
 use Rattle.rescue_run.specs.declared.outcome.Outcome.TheVariants.{Memory}
-use Rattle.rescue_run.specs.Loading.{loaded_of, loads_of_files, Answers}
+use Rattle.rescue_run.specs.declared.outcome.Which.TheVariants as which
+use Rattle.rescue_run.specs.Outcomes.{limit_of}
+use Rattle.rescue_run.specs.Loading.{listed_by, loaded_of, loads_of_files, Answers, Read}
 use Rattle.rescue_run.specs.Reads.{AreAnswers, IsAskedFor, IsOrMemory}
-use Rattle.rescue_run.specs.Words.{files_of, loads_by, loads_for, loads_read, start_by, start_for, start_read, with_limits}
+use Rattle.rescue_run.specs.Words.{files_of, list_with, loads_by, loads_for, loads_read, run_with, task_by, task_for, task_read}
 
--- files were loaded for a run with these limits
-pub record StartsFiles (f : Files) (limits : Limits) (old new : Shelved)
-    (result : Result Start Outcome) : Type 0 where
+-- files were loaded for a run with these limits and this seed
+pub record StartsFiles (f : Files) (limits : Limits) (seed : ℕ) (old new : Shelved)
+    (result : Result Task Outcome) : Type 0 where
   pub answers : Answers
   pub answered : AreAnswers old new f answers
   pub asked : IsAskedFor (result ≡ Err Memory) old.asked new.asked (loads_of_files f answers)
-  pub value : IsOrMemory result (with_limits limits (loaded_of f answers))
+  pub value : IsOrMemory result (run_with limits seed (loaded_of f answers))
 
--- the same for a command
-pub record PreparesCommand (c : Command) (old new : Shelved) (result : Result Start Outcome) :
+-- the file of a program was loaded for the list of its symbols
+pub record ListsFile (name : List ℕ) (old new : Shelved) (result : Result Task Outcome) : Type 0
+  where
+    pub answer : Read
+    pub loads : Loads old new name (limit_of which.Program) answer
+    pub value : IsOrMemory result (list_with (listed_by answer))
+
+-- what files were loaded for a command
+pub record PreparesCommand (c : Command) (old new : Shelved) (result : Result Task Outcome) :
     Type 0 where
   pub answers : Answers
   pub answered : IfSome (files_of c) (λ f. AreAnswers old new f answers)
   pub asked : IsAskedFor (result ≡ Err Memory) old.asked new.asked (loads_by c answers)
-  pub value : IsOrMemory result (start_by c answers)
+  pub value : IsOrMemory result (task_by c answers)
 
 -- the same for a command, and so many ports that are handed in
 pub record PreparesCounted (c : Command) (handed : ℕ) (old new : Shelved)
-    (result : Result Start Outcome) : Type 0 where
+    (result : Result Task Outcome) : Type 0 where
   pub answers : Answers
   pub answered : IfSome (files_of c) (λ f. AreAnswers old new f answers)
   pub asked : IsAskedFor (result ≡ Err Memory) old.asked new.asked
       (loads_read (Ok c) handed answers)
-  pub value : IsOrMemory result (start_read (Ok c) handed answers)
+  pub value : IsOrMemory result (task_read (Ok c) handed answers)
 
 -- the files of words that are read
 abbrev pub AreAnswersFor : List (List ℕ) → Shelved → Shelved → Answers → Type 0
@@ -44,8 +53,8 @@ AreAnswersFor words old new answers = (c : Command) (f : Files) → command_of w
 
 -- the same for words, and so many ports that are handed in
 pub record Prepares (words : List (List ℕ)) (handed : ℕ) (old new : Shelved)
-    (result : Result Start Outcome) : Type 0 where
+    (result : Result Task Outcome) : Type 0 where
   pub answers : Answers
   pub answered : AreAnswersFor words old new answers
   pub asked : IsAskedFor (result ≡ Err Memory) old.asked new.asked (loads_for words handed answers)
-  pub value : IsOrMemory result (start_for words handed answers)
+  pub value : IsOrMemory result (task_for words handed answers)

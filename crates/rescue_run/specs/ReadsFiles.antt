@@ -5,6 +5,7 @@ use Rattle.guest_words.specs.declared.point.Point.{Point}
 use Rattle.guest_words.specs.Image.{first_fault}
 use Rattle.edge_ports.specs.Shelves.{Loads, Shelved}
 use Rattle.elf_symbols.specs.declared.sym_fault.SymFault.{SymFault}
+use Rattle.elf_symbols.specs.declared.symbol.Symbol.{Symbol}
 use Rattle.elf_symbols.specs.SymbolTable.{first_symbol_fault}
 use Rattle.rescue_run.specs.declared.files.Files.{Files}
 use Rattle.rescue_run.specs.declared.start.Loaded.{Loaded}
@@ -12,7 +13,7 @@ use Rattle.rescue_run.specs.declared.outcome.Which.TheVariants as which
 use Rattle.rescue_run.specs.declared.outcome.Outcome.{Outcome}
 use Rattle.rescue_run.specs.declared.outcome.Outcome.TheVariants.{Elf, Symbols, Memory}
 use Rattle.rescue_run.specs.Outcomes.{limit_of}
-use Rattle.rescue_run.specs.Loading.{image_of, loaded_of, loads_of_files, points_read, with_points, Answers, Read}
+use Rattle.rescue_run.specs.Loading.{image_of, listed_by, loaded_of, loads_of_files, points_read, with_points, Answers, Read}
 use Rattle.rescue_run.specs.Reads.{AreAnswers, Follows, IsAskedFor, IsOrMemory}
 
 -- the rule that a program breaks first, or want of memory
@@ -73,3 +74,10 @@ pub record ReadsFiles (f : Files) (old new : Shelved) (result : Result Loaded Ou
     pub answered : AreAnswers old new f answers
     pub asked : IsAskedFor (result ≡ Err Memory) old.asked new.asked (loads_of_files f answers)
     pub value : IsOrMemory result (loaded_of f answers)
+
+-- the program of a name was loaded, and gave these symbols
+pub record ReadsSymbols (name : List ℕ) (old new : Shelved)
+    (result : Result (List Symbol) Outcome) : Type 0 where
+  pub answer : Read
+  pub loads : Loads old new name (limit_of which.Program) answer
+  pub value : IsOrMemory result (listed_by answer)

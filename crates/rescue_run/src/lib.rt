@@ -2,22 +2,22 @@
 #![tactic(auto)]
 
 mod answer;
-mod drive;
-mod driven;
+mod answers;
+mod failures;
 mod files;
 mod lines;
+mod load;
 mod loading;
-mod open_call;
 mod outcome;
 mod prepare;
 mod put;
 mod run;
-mod run_end;
 mod start;
 mod system;
+mod task;
 mod top;
 
 pub use answer::Answer;
-pub use outcome::{Outcome, Unbuilt, Which};
+pub use outcome::{Outcome, Which};
 pub use system::{run_words, run_words_to};
 pub use top::alone_top;

@@ -1,17 +1,20 @@
-ghost use Rattle.std.specs.Prelude.{◌≡◌, ◌≤◌, IfOk};
-ghost use Rattle.guest_words.specs.Image.{IsLoadList};
+ghost use Rattle.std.specs.Prelude.{◌≡◌, IfOk};
 ghost use Rattle.program_words.specs.Ranges.{IsInRange};
 ghost use Rattle.program_words.specs.Words.{texts};
 ghost use Rattle.rescue_run.specs.Outcomes.{of_words_fault};
-ghost use Rattle.rescue_run.specs.Prepares.{Prepares, PreparesCommand, PreparesCounted, StartsFiles};
+ghost use Rattle.rescue_run.specs.Prepares.{ListsFile, Prepares, PreparesCommand, PreparesCounted, StartsFiles};
 ghost use Rattle.rescue_run.specs.Reads.{Follows};
+ghost use Rattle.rescue_run.specs.Tasks.{CanStart};
 ghost use Rattle.rescue_run.specs.Words.{needs_threads, ports_named, IsWithin};
 
 use crate::files::Files;
-use crate::loading::load_files;
-use crate::outcome::{Outcome, Unbuilt};
+use crate::load::prepare_load;
+use crate::loading::{load_files, load_symbols};
+use crate::outcome::Outcome;
 use crate::start::Start;
+use crate::task::Task;
 use edge_ports::Shelf;
+use guest_words::Name;
 use machine_core::Limits;
 use program_words::{Command, WordFault, WordsFault, needs_threads, read_words};
 use std::alloc::Global;
@@ -43,64 +46,77 @@ fn named_ports(command: &Command) -> u64
     }
 }
 
-/// What the files give, with these limits.
-fn start_with<F: Shelf>(
+/// The run of what the files give, with these limits and this seed.
+fn prepare_run<F: Shelf>(
     alloc: Global,
     files: Files,
     limits: Limits,
+    seed: u64,
     shelf: &mut F,
-) -> Result<Start, Outcome>
-    ensures starts { StartsFiles files limits (F.seen shelf.old) (F.seen shelf.new) result }
-    ensures list { IfOk result (λ start. IsLoadList start.loaded.image.loads) }
-    ensures limits { IfOk result (λ start. start.limits ≡ limits) }
+) -> Result<Task, Outcome>
+    requires within { IsWithin limits }
+    ensures starts { StartsFiles files limits seed (F.seen shelf.old) (F.seen shelf.new) result }
+    ensures can { IfOk result CanStart }
     ensures follows { Follows (F.seen shelf.old) (F.seen shelf.new) }
 {
     let loaded = load_files(alloc, &files, shelf)?;
-    Ok(Start { loaded, limits })
+    Ok(Task::Run(Start {
+        loaded,
+        limits,
+        seed,
+    }))
 }
 
-/// What runs for a command, or why nothing runs.
+/// The list of the symbols of a program.
+fn prepare_list<F: Shelf>(alloc: Global, program: Name, shelf: &mut F) -> Result<Task, Outcome>
+    ensures lists { ListsFile program (F.seen shelf.old) (F.seen shelf.new) result }
+    ensures can { IfOk result CanStart }
+    ensures follows { Follows (F.seen shelf.old) (F.seen shelf.new) }
+{
+    let symbols = load_symbols(alloc, &program, shelf)?;
+    Ok(Task::List(symbols))
+}
+
+/// What a command asks for, or why nothing is done.
 fn prepare_command<F: Shelf>(
     alloc: Global,
     command: Command,
     shelf: &mut F,
-) -> Result<Start, Outcome>
+) -> Result<Task, Outcome>
     requires range { IsInRange command }
     ensures prepares { PreparesCommand command (F.seen shelf.old) (F.seen shelf.new) result }
-    ensures list { IfOk result (λ start. IsLoadList start.loaded.image.loads) }
-    ensures within { IfOk result (λ start. IsWithin start.limits) }
+    ensures can { IfOk result CanStart }
     ensures follows { Follows (F.seen shelf.old) (F.seen shelf.new) }
 {
     match command {
-        // One hart alone is ever ready, so that the seed has nothing to choose.
         Command::Alone {
             points,
             harts,
             budget,
+            seed,
             program,
             ..
         } => {
             let limits = Limits { harts, budget };
-            start_with(alloc, Files { program, points }, limits, shelf)
+            prepare_run(alloc, Files { program, points }, limits, seed, shelf)
         }
         Command::Run { .. } => Err(Outcome::Words(WordFault::Threads)),
-        Command::List { .. } => Err(Outcome::Unbuilt(Unbuilt::Command)),
-        Command::Load { .. } => Err(Outcome::Unbuilt(Unbuilt::Command)),
+        Command::List { program } => prepare_list(alloc, program, shelf),
+        Command::Load { number } => prepare_load(alloc, number),
     }
 }
 
-/// What runs for a command and so many ports that are handed in, or why nothing runs.
+/// What a command asks for with so many ports that are handed in, or why nothing is done.
 fn prepare_counted<F: Shelf>(
     alloc: Global,
     command: Command,
     handed: u64,
     shelf: &mut F,
-) -> Result<Start, Outcome>
+) -> Result<Task, Outcome>
     requires range { IsInRange command }
     ensures prepares { PreparesCounted command handed (F.seen shelf.old) (F.seen shelf.new)
         result }
-    ensures list { IfOk result (λ start. IsLoadList start.loaded.image.loads) }
-    ensures within { IfOk result (λ start. IsWithin start.limits) }
+    ensures can { IfOk result CanStart }
     ensures follows { Follows (F.seen shelf.old) (F.seen shelf.new) }
 {
     let named = named_ports(&command);
@@ -111,17 +127,16 @@ fn prepare_counted<F: Shelf>(
     }
 }
 
-/// What runs for these words and so many ports that are handed in, or why nothing runs.
+/// What these words ask for with so many ports that are handed in, or why nothing is done.
 pub fn prepare<F: Shelf>(
     alloc: Global,
     words: &[String],
     handed: u64,
     shelf: &mut F,
-) -> Result<Start, Outcome>
+) -> Result<Task, Outcome>
     ensures prepares { Prepares (texts words.now) handed (F.seen shelf.old) (F.seen shelf.new)
         result }
-    ensures list { IfOk result (λ start. IsLoadList start.loaded.image.loads) }
-    ensures within { IfOk result (λ start. IsWithin start.limits) }
+    ensures can { IfOk result CanStart }
     ensures follows { Follows (F.seen shelf.old) (F.seen shelf.new) }
 {
     if wants_threads(words) {

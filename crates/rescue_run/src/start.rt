@@ -9,9 +9,10 @@ pub struct Loaded {
     pub points: Points,
 }
 
-/// What runs, and how much it may have.
+/// What runs, how much it may have, and the seed of the words that choose among its harts.
 #[derive(Drop)]
 pub struct Start {
     pub loaded: Loaded,
     pub limits: Limits,
+    pub seed: u64,
 }

@@ -1,12 +1,19 @@
 use crate::case::{Case, run};
 use crate::image::image;
-use crate::replay::replays;
+use crate::replay::{ReplayStart, replays};
 use guest_words::Ending;
 use run_history::Entry;
 use std::test::Fail;
 
 /// A jump to itself.
 const LOOP: [u32; 1] = [0x0000006f];
+
+const START: ReplayStart = ReplayStart {
+    points: "",
+    harts: 8,
+    ports: 0,
+    budget: 5_000_000,
+};
 
 /// How many entries stand for so many acts each, before the end by the budget.
 fn turns(entries: &[Entry], acts: u32) -> Option<usize> {
@@ -28,7 +35,8 @@ fn budget_of_a_loop(rt: HostRuntime) -> Result<(), Fail> {
     match &outcome.answer.history {
         Some(history) => {
             assert_eq!(rt; turns(history.items(), 64), Some(78_125));
-            assert!(rt; replays(alloc, &image(alloc, &LOOP, None)?, "", 0, history.items())?);
+            let file = image(alloc, &LOOP, None)?;
+            assert!(rt; replays(alloc, &file, START, history.items())?);
         }
         None => assert!(rt; false),
     }

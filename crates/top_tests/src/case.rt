@@ -6,15 +6,17 @@ use std::alloc::{AllocError, Global};
 
 pub type Over = Answer<MemorySource, MemorySink>;
 
-/// What is run: the words of the program, its data, its rescue file and its input; whether a port
-/// is named and handed in; and the numbers of the calls of its output, of its port and of its
-/// report that are to fail.
+/// What is run: the words of the program, its data, its rescue file and its input; the harts and
+/// the budget that are asked for; whether a port is named and handed in; and the numbers of the
+/// calls of its output, of its port and of its report that are to fail.
 #[derive(Clone, Copy)]
 pub struct Case<'a> {
     pub words: &'a [u32],
     pub data: Option<&'a [u8]>,
     pub points: Option<&'a str>,
     pub input: &'a [u8],
+    pub harts: Option<u8>,
+    pub budget: Option<u64>,
     pub port: bool,
     pub out_fails: &'a [u64],
     pub port_fails: &'a [u64],
@@ -29,6 +31,8 @@ impl<'a> Case<'a> {
             data: None,
             points: None,
             input: &[],
+            harts: None,
+            budget: None,
             port: false,
             out_fails: &[],
             port_fails: &[],
@@ -65,6 +69,12 @@ pub fn command(alloc: Global, case: &Case) -> Result<Vec<String>, AllocError> {
     let mut words = list(alloc, &["alone", "p"])?;
     if case.points.is_some() {
         words.push(String::from_str(alloc, "--points=f")?)?;
+    }
+    if let Some(harts) = case.harts {
+        words.push(format!(in alloc; "--harts={harts}")?)?;
+    }
+    if let Some(budget) = case.budget {
+        words.push(format!(in alloc; "--budget={budget}")?)?;
     }
     if case.port {
         words.push(String::from_str(alloc, "a:b")?)?;

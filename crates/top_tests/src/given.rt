@@ -1,7 +1,7 @@
 use crate::case::{Case, Outcome, run};
 use crate::expected::{Expected, are};
 use crate::image::image;
-use crate::replay::replays;
+use crate::replay::{ReplayStart, replays};
 use rescue_run::Outcome as Came;
 use run_history::{Entry, History};
 use std::alloc::{AllocError, Global};
@@ -11,7 +11,7 @@ use std::test::Fail;
 /// What a case has to give: its history, what the output was given, the status and the report.
 #[derive(Clone, Copy)]
 pub struct Given<'a> {
-    pub history: &'a [Expected],
+    pub history: &'a [Expected<'a>],
     pub out: &'a [u8],
     pub status: u8,
     pub report: &'a str,
@@ -81,6 +81,11 @@ fn is_run(alloc: Global, case: &Case, history: &Option<History>) -> Result<bool,
 
 fn replay(alloc: Global, case: &Case, entries: &[Entry]) -> Result<bool, AllocError> {
     let file = image(alloc, case.words, case.data)?;
-    let points = case.points.unwrap_or("");
-    replays(alloc, &file, points, case.ports(), entries)
+    let start = ReplayStart {
+        points: case.points.unwrap_or(""),
+        harts: case.harts.unwrap_or(8),
+        ports: case.ports(),
+        budget: case.budget.unwrap_or(5_000_000),
+    };
+    replays(alloc, &file, start, entries)
 }

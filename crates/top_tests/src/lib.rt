@@ -10,7 +10,15 @@ mod expected;
 #[cfg(test)]
 mod given;
 #[cfg(test)]
+mod harts;
+#[cfg(test)]
 mod image;
+#[cfg(test)]
+mod nested;
+#[cfg(test)]
+mod other_commands;
+#[cfg(test)]
+mod pages;
 #[cfg(test)]
 mod ports;
 #[cfg(test)]

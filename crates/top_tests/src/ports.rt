@@ -1,6 +1,6 @@
 //! Programs with a port.
 use crate::case::Case;
-use crate::expected::Expected;
+use crate::expected::{Expected, Inside};
 use crate::given::{Given, assert_gives};
 use guest_words::{FaultName, Way};
 use std::test::Fail;
@@ -51,7 +51,12 @@ fn close_inside_a_point(rt: HostRuntime) -> Result<(), Fail> {
     let given = Given {
         history: &[
             Expected::Ran(1),
-            Expected::RescuedAfterClose(0x10020, FaultName::Breakpoint, 0x1002c, 2, 3),
+            Expected::Rescued(
+                0x10020,
+                FaultName::Breakpoint,
+                0x1002c,
+                &[Inside::Ran(2), Inside::Called(3, Way::Close, 0, 0)],
+            ),
             Expected::Ran(6),
             Expected::Exit(247),
         ],

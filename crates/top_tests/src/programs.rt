@@ -179,17 +179,3 @@ fn unknown_call(rt: HostRuntime) -> Result<(), Fail> {
     assert_gives(&rt, rt.alloc(), &case, &given)?;
     Ok(())
 }
-
-// The load-reserved instruction isn't built.
-#[test]
-fn unbuilt_act(rt: HostRuntime) -> Result<(), Fail> {
-    let given = Given {
-        history: &[],
-        out: &[],
-        status: 76,
-        report: "refused: unbuilt act at 0000000000010000\n",
-    };
-    // lr.w x5,(x0)
-    assert_gives(&rt, rt.alloc(), &Case::of(&[0x100022af]), &given)?;
-    Ok(())
-}

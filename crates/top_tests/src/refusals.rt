@@ -50,8 +50,8 @@ const WORDS: [(&[&str], u8, &str); 9] = [
         65,
         "refused: ports named 1 handed 0\n",
     ),
-    (&["list", "p"], 76, "refused: unbuilt command\n"),
-    (&["load", "1"], 76, "refused: unbuilt command\n"),
+    (&["list", "p"], 66, "refused: program unreadable\n"),
+    (&["load", "0"], 64, "refused: words line\n"),
 ];
 
 #[test]

@@ -4,25 +4,45 @@ ghost use Rattle.guest_words.specs.Image.{IsLoadList};
 use crate::image::TEXT;
 use elf_loader::load;
 use elf_symbols::functions;
+use guest_words::limits::HARTS;
 use guest_words::{Image, Points, Span};
 use plain_machine::Plain;
 use rescue_config::read_points;
 use run_history::Entry;
 use std::alloc::{AllocError, Global};
 
-/// Whether the entries are a run of the file from its start, entry by entry, with the points of a
-/// rescue file, of which an empty one names none. An Err is want of memory.
+/// How a replay starts: with the points of a rescue file, of which an empty one names none, and
+/// with so many harts, ports and steps.
+#[derive(Clone, Copy)]
+pub struct ReplayStart<'a> {
+    pub points: &'a str,
+    pub harts: u8,
+    pub ports: u64,
+    pub budget: u64,
+}
+
+/// Whether the entries are a run of the file from its start, entry by entry. An Err is want of
+/// memory.
 pub fn replays(
     alloc: Global,
     file: &[u8],
-    points: &str,
-    ports: u64,
+    start: ReplayStart,
     entries: &[Entry],
 ) -> Result<bool, AllocError> {
+    if start.harts == 0 || start.harts > HARTS {
+        return Ok(false);
+    }
     let image = loaded(alloc, file)?;
-    let points = named(alloc, file, points)?;
-    match Plain::start(alloc, &image, &points, 8, ports, 5_000_000) {
-        Ok(start) => all_checked(alloc, start, entries),
+    let points = named(alloc, file, start.points)?;
+    match Plain::start(
+        alloc,
+        &image,
+        &points,
+        start.harts,
+        start.ports,
+        start.budget,
+    ) {
+        Ok(state) => all_checked(alloc, state, entries),
         Err(_) => Err(AllocError),
     }
 }

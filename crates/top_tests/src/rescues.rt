@@ -1,5 +1,5 @@
 use crate::case::Case;
-use crate::expected::Expected;
+use crate::expected::{Expected, Inside};
 use crate::given::{Given, assert_gives};
 use guest_words::FaultName;
 use std::alloc::Global;
@@ -44,7 +44,7 @@ fn written_twice(
     let given = Given {
         history: &[
             Expected::Ran(2),
-            Expected::Rescued(0x10018, FaultName::LoadRights, 0x10028, 4),
+            Expected::Rescued(0x10018, FaultName::LoadRights, 0x10028, &[Inside::Ran(4)]),
             Expected::Ran(3),
             Expected::Exit(status),
         ],
@@ -81,7 +81,7 @@ fn one_point_rescued(rt: HostRuntime) -> Result<(), Fail> {
     let given = Given {
         history: &[
             Expected::Ran(2),
-            Expected::Rescued(0x10018, FaultName::LoadRights, 0x10020, 2),
+            Expected::Rescued(0x10018, FaultName::LoadRights, 0x10020, &[Inside::Ran(2)]),
             Expected::Ran(3),
             Expected::Exit(15),
         ],
@@ -143,7 +143,7 @@ fn spent_point(rt: HostRuntime) -> Result<(), Fail> {
     let given = Given {
         history: &[
             Expected::Ran(1),
-            Expected::Rescued(0x10010, FaultName::LoadRights, 0x10010, 0),
+            Expected::Rescued(0x10010, FaultName::LoadRights, 0x10010, &[]),
             Expected::Ran(1),
             Expected::Fault(FaultName::LoadRights, 0x10010),
         ],

@@ -91,6 +91,14 @@ impl Log {
         self.notes.push_reserved(Note::Break(old));
     }
 
+    /// Forgets all notes. Takes no memory.
+    pub fn clear(&mut self)
+        ensures none { self.new.notes ≡ [] }
+        ensures room { self.old.spare ≤ self.new.spare }
+    {
+        self.notes.clear();
+    }
+
     /// The number of notes.
     pub fn length(&self) -> u64
         ensures value { result ≡ length self.now.notes }

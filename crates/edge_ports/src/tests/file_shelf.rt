@@ -13,15 +13,11 @@ fn bytes_of_size(alloc: Global, size: u64) -> Result<Vec<u8>, AllocError> {
     Ok(bytes)
 }
 
-/// Whether a file of that size is loaded as it is.
-fn is_loaded(rt: &HostRuntime, size: u64) -> Result<bool, Fail> {
-    let bytes = bytes_of_size(rt.alloc(), size)?;
-    fs::write(rt, "edge_ports_sized", bytes.as_slice())?;
+/// Whether a shelf loads these bytes under a name.
+fn loads(rt: &HostRuntime, name: &str, bytes: &[u8]) -> Result<bool, Fail> {
     let mut shelf = FileShelf::new(rt.clone()?);
-    let loaded = shelf.load(rt.alloc(), "edge_ports_sized", 20_000);
-    fs::remove_file(rt, "edge_ports_sized")?;
-    Ok(match loaded {
-        Ok(loaded) => loaded.items() == bytes.as_slice(),
+    Ok(match shelf.load(rt.alloc(), name, 20_000) {
+        Ok(loaded) => loaded.items() == bytes,
         Err(_) => false,
     })
 }
@@ -29,75 +25,70 @@ fn is_loaded(rt: &HostRuntime, size: u64) -> Result<bool, Fail> {
 #[test]
 fn a_file_of_each_size_is_loaded(rt: HostRuntime) -> Result<(), Fail> {
     for size in [0, 1, 4095, 4096, 4097, 20_000] {
-        assert!(rt; is_loaded(&rt, size)?, "{size}");
+        let bytes = bytes_of_size(rt.alloc(), size)?;
+        fs::write(&rt, "edge_ports_sized", bytes.as_slice())?;
+        assert!(rt; loads(&rt, "edge_ports_sized", bytes.as_slice())?, "{size}");
     }
+    fs::remove_file(&rt, "edge_ports_sized")?;
     Ok(())
 }
 
-/// Why the file isn't loaded, None where it is.
-fn fault_of_load(rt: &HostRuntime, name: &str, limit: u64) -> Result<Option<ShelfFault>, Fail> {
+/// Why at most five bytes aren't loaded, None where they are.
+fn fault_of_load(rt: &HostRuntime, name: &str) -> Result<Option<ShelfFault>, Fail> {
     let mut shelf = FileShelf::new(rt.clone()?);
-    Ok(shelf.load(rt.alloc(), name, limit).err())
+    Ok(shelf.load(rt.alloc(), name, 5).err())
 }
 
 #[test]
 fn what_is_no_short_file_is_refused(rt: HostRuntime) -> Result<(), Fail> {
-    let bytes = bytes_of_size(rt.alloc(), 20_000)?;
-    fs::write(&rt, "edge_ports_long", bytes.as_slice())?;
-    let long = ShelfFault::TooLong { length: 20_000 };
-    assert_eq!(rt; fault_of_load(&rt, "edge_ports_long", 5)?, Some(long));
+    let long = ShelfFault::TooLong { length: 7 };
+    fs::write(&rt, "edge_ports_long", "7 bytes")?;
+    assert_eq!(rt; fault_of_load(&rt, "edge_ports_long")?, Some(long));
     fs::remove_file(&rt, "edge_ports_long")?;
-    assert_eq!(rt;
-        fault_of_load(&rt, "edge_ports_long", 5)?,
-        Some(ShelfFault::Failed)
-    );
-    assert_eq!(rt; fault_of_load(&rt, ".", 5)?, Some(ShelfFault::Failed));
+    for name in ["edge_ports_long", "."] {
+        assert_eq!(rt; fault_of_load(&rt, name)?, Some(ShelfFault::Failed));
+    }
     Ok(())
 }
 
-/// The answer to a save of a text.
-fn save(rt: &HostRuntime, name: &str, text: &str) -> Result<Result<(), ShelfFault>, Fail> {
+/// Whether a save of a text succeeds.
+fn saves(rt: &HostRuntime, name: &str, text: &str) -> Result<bool, Fail> {
     let bytes = Bytes::of(text.as_bytes().to_vec(rt.alloc())?);
-    Ok(FileShelf::new(rt.clone()?).save(rt.alloc(), name, &bytes))
+    Ok(
+        FileShelf::new(rt.clone()?)
+            .save(rt.alloc(), name, &bytes)
+            .is_ok(),
+    )
 }
 
 #[test]
-fn a_save_replaces_a_file_whole_or_not_at_all(rt: HostRuntime) -> Result<(), Fail> {
-    assert_eq!(rt; save(&rt, "edge_ports_saved", "first")?, Ok(()));
-    assert_eq!(rt; save(&rt, "edge_ports_saved", "two")?, Ok(()));
-    assert_eq!(rt;
-        fs::read_to_string(&rt, "edge_ports_saved")?.as_str(),
-        "two"
-    );
-    fs::write(&rt, "edge_ports_saved.saving", "mine")?;
-    assert_eq!(rt;
-        save(&rt, "edge_ports_saved", "three")?,
-        Err(ShelfFault::Failed)
-    );
-    assert_eq!(rt;
-        fs::read_to_string(&rt, "edge_ports_saved")?.as_str(),
-        "two"
-    );
-    assert_eq!(rt;
-        fs::read_to_string(&rt, "edge_ports_saved.saving")?.as_str(),
-        "mine"
-    );
-    fs::remove_file(&rt, "edge_ports_saved.saving")?;
+fn a_save_replaces_a_file_whole(rt: HostRuntime) -> Result<(), Fail> {
+    for text in ["first", "two"] {
+        assert!(rt; saves(&rt, "edge_ports_saved", text)?);
+        assert!(rt; loads(&rt, "edge_ports_saved", text.as_bytes())?);
+    }
     fs::remove_file(&rt, "edge_ports_saved")?;
+    Ok(())
+}
+
+// Another file stands where the new one would be written.
+#[test]
+fn a_save_that_fails_leaves_both_files(rt: HostRuntime) -> Result<(), Fail> {
+    fs::write(&rt, "edge_ports_old", "two")?;
+    fs::write(&rt, "edge_ports_old.saving", "mine")?;
+    assert!(rt; !saves(&rt, "edge_ports_old", "three")?);
+    assert!(rt; loads(&rt, "edge_ports_old", b"two")?);
+    assert!(rt; loads(&rt, "edge_ports_old.saving", b"mine")?);
+    fs::remove_file(&rt, "edge_ports_old.saving")?;
+    fs::remove_file(&rt, "edge_ports_old")?;
     Ok(())
 }
 
 #[test]
 fn a_save_that_cannot_be_renamed_leaves_nothing(rt: HostRuntime) -> Result<(), Fail> {
     fs::create_dir(&rt, "edge_ports_folder")?;
-    assert_eq!(rt;
-        save(&rt, "edge_ports_folder", "text")?,
-        Err(ShelfFault::Failed)
-    );
-    assert_eq!(rt;
-        fault_of_load(&rt, "edge_ports_folder.saving", 9)?,
-        Some(ShelfFault::Failed)
-    );
+    assert!(rt; !saves(&rt, "edge_ports_folder", "text")?);
+    assert!(rt; !loads(&rt, "edge_ports_folder.saving", b"text")?);
     fs::remove_dir(&rt, "edge_ports_folder")?;
     Ok(())
 }

@@ -1,8 +1,9 @@
-use Rattle.std.proofs.Common.{◌≡◌, ◌∙◌, ◌+◌, ◌-◌, sym, ap, arith}
+use Rattle.std.proofs.Common.{◌≡◌, ◌∙◌, ◌+◌, ◌-◌, sym, ap, arith, length}
 use Rattle.std.specs.Option.{is_none}
 use Rattle.undo_log.specs.Noted.{Noted}
+use Rattle.guest_memory.proofs.Noted.{notes_both, notes_none}
 use Rattle.hart_step.specs.InARow.{lone, stays_open}
-use Rattle.hart_step.proofs.InARow.{after_none, go_none, open_none, notes_none, step_more, go_more, open_more, notes_more}
+use Rattle.hart_step.proofs.InARow.{after_none, go_none, open_none, step_more, go_more, open_more}
 use Rattle.hart_step.proofs.quantum.run.Goals as goal
 
 pub loop-count-init : goal.loop-count-init
@@ -14,7 +15,8 @@ loop-count-init c =
       go_none points c.args.frames s,
       after_none points c.args.frames s,
       open_none points c.args.frames c.args.top.now s,
-      notes_none c.args.noted points c.args.frames s c.args.log.now.notes,
+      notes_none c.args.noted c.args.log.now.notes c.args.memory.now,
+      omega arith,
       omega arith,
     )
 
@@ -41,9 +43,7 @@ returns-then-is_closed-clause-row c =
 
 pub returns-then-is_closed-clause-notes : goal.returns-then-is_closed-clause-notes
 returns-then-is_closed-clause-notes c =
-    let so_far = c.loop-count.invariant in
-    notes_more c.args.noted c.args.points.now c.args.frames c.loop-count.count (lone c.args.hart.now c.args.memory.now) (lone c.loop-count.hart c.loop-count.memory)
-    c.args.log.now.notes c.loop-count.log.notes c.go.new.log.notes so_far.3 so_far.5 c.go.ensures.notes
+    notes_both c.args.noted c.args.log.now.notes c.loop-count.log.notes c.go.new.log.notes c.args.memory.now c.loop-count.memory c.go.new.memory c.loop-count.invariant.5 c.go.ensures.notes
 
 pub loop-count-preserved : goal.loop-count-preserved
 loop-count-preserved c =
@@ -61,10 +61,13 @@ loop-count-preserved c =
       go_more points frames n s now so_far.3 so_far.2 (sym c.go.ensures.goes ∙ ap is_none c.in_default.is),
       after,
       open_more points frames top n s next after so_far.4 (sym c.is_closed.ensures.value ∙ c.if-is_closed.false),
-      notes_more c.args.noted points frames n s now c.args.log.now.notes c.loop-count.log.notes c.go.new.log.notes so_far.3 so_far.5 c.go.ensures.notes,
+      notes_both c.args.noted c.args.log.now.notes c.loop-count.log.notes c.go.new.log.notes c.args.memory.now c.loop-count.memory c.go.new.memory so_far.5 c.go.ensures.notes,
       let room = so_far.6 in
           let spare = c.go.ensures.spare in
           omega (arith, room, spare),
+      let few = so_far.7 in
+          let one = c.go.ensures.few in
+          omega (arith, few, one),
     )
 
 pub go-requires-clause-room : goal.go-requires-clause-room
@@ -72,6 +75,12 @@ go-requires-clause-room c = λ under.
     let room = c.requires.room under in
     let spare = c.loop-count.invariant.6 in
     omega (arith, room, spare, c.loop-count-test.true)
+
+pub returns-in-Some-clause-few : goal.returns-in-Some-clause-few
+returns-in-Some-clause-few c =
+    let same = ap (λ (l : Noted). length l.notes) c.in-Some.ensures.kept in
+    let few = c.loop-count.invariant.7 in
+    omega (arith, same, few)
 
 pub returns-in-Some-clause-spare : goal.returns-in-Some-clause-spare
 returns-in-Some-clause-spare c =

@@ -1,17 +1,23 @@
-use Rattle.std.proofs.Common.{ap}
-use Rattle.rescue_run.specs.Words.{files_of, start_by}
-use Rattle.rescue_run.proofs.Preparing.{prepares_nothing}
+use Rattle.std.proofs.Common.{ap, sym, subst}
+use Rattle.rescue_run.specs.Prepares.{PreparesCommand}
+use Rattle.rescue_run.specs.Words.{files_of, task_by}
+use Rattle.rescue_run.proofs.Preparing.{prepares_list, prepares_load, prepares_nothing}
 use Rattle.rescue_run.proofs.Shelving.{no_answers}
 use Rattle.rescue_run.proofs.prepare.prepare_command.Goals as goal
 
 pub returns-in-Run-clause-prepares : goal.returns-in-Run-clause-prepares
 returns-in-Run-clause-prepares g c =
-    prepares_nothing c.args.command (g.F.Shelf.seen c.args.shelf.now) _ (ap files_of c.in-Run.is) (ap (λ k. start_by k no_answers) c.in-Run.is)
+    prepares_nothing c.args.command (g.F.Shelf.seen c.args.shelf.now) _ (ap files_of c.in-Run.is) (ap (λ k. task_by k no_answers) c.in-Run.is)
 
 pub returns-in-List-clause-prepares : goal.returns-in-List-clause-prepares
 returns-in-List-clause-prepares g c =
-    prepares_nothing c.args.command (g.F.Shelf.seen c.args.shelf.now) _ (ap files_of c.in-List.is) (ap (λ k. start_by k no_answers) c.in-List.is)
+    let old = g.F.Shelf.seen c.args.shelf.now in
+    let new = g.F.Shelf.seen c.prepare_list.new.shelf in
+    subst (λ k. PreparesCommand k old new c.prepare_list.result) (sym c.in-List.is)
+    (prepares_list c.in-List.program old new c.prepare_list.result c.prepare_list.ensures.lists)
 
 pub returns-clause-prepares : goal.returns-clause-prepares
 returns-clause-prepares g c =
-    prepares_nothing c.args.command (g.F.Shelf.seen c.args.shelf.now) _ (ap files_of c.in-Load.is) (ap (λ k. start_by k no_answers) c.in-Load.is)
+    let s = g.F.Shelf.seen c.args.shelf.now in
+    subst (λ k. PreparesCommand k s s c.prepare_load.result) (sym c.in-Load.is)
+    (prepares_load c.in-Load.number s c.prepare_load.result c.prepare_load.ensures.value)

@@ -4,7 +4,7 @@ use Rattle.program_words.specs.Words.{texts}
 use Rattle.edge_ports.specs.Seen.{seen}
 use Rattle.rescue_run.specs.Headline.{Headline}
 use Rattle.rescue_run.specs.Top.{told}
-use Rattle.rescue_run.proofs.Answering.{headline_refused, headline_run}
+use Rattle.rescue_run.proofs.Answering.{headline_done, headline_refused}
 use Rattle.rescue_run.proofs.top.run_command.Goals as goal
 
 pub returns-in-Err-clause-headline : goal.returns-in-Err-clause-headline
@@ -29,7 +29,6 @@ returns-in-Ok-clause-headline g c =
     let sink = g.T.Sink.end in
     let port = g.P.Port.end in
     let before = seen source sink port c.args.devices in
-    let items = c.args.devices.ports.items in
-    headline_run (texts c.args.words.now) (g.F.Shelf.seen c.args.shelf.now) (g.F.Shelf.seen c.prepare.new.shelf) before
-    (g.R.Sink.end c.args.report.now) (g.R.Sink.end c.run_loaded.new.report) c.port_count-handed.result _ c.in-Ok.start (told source sink port c.run_loaded.result)
-    (c.port_count-handed.ensures.value ∙ sym (length-map items port)) (sym (length-map items port)) c.in-Ok.ensures.prepares c.run_loaded.ensures.told
+    headline_done (texts c.args.words.now) (g.F.Shelf.seen c.args.shelf.now) (g.F.Shelf.seen c.prepare.new.shelf) before
+    (g.R.Sink.end c.args.report.now) (g.R.Sink.end c.do_task.new.report) c.port_count-handed.result c.in-Ok.task (told source sink port c.do_task.result)
+    (c.port_count-handed.ensures.value ∙ sym (length-map c.args.devices.ports.items port)) c.in-Ok.ensures.prepares c.do_task.ensures.status c.do_task.ensures.comes

@@ -13,6 +13,7 @@ loop-done-init c =
       within = omega arith;
       same = ap (λ m. record old { space = m }) (sym (filled_none old.space c.args.from c.args.bytes.now));
       notes = notes_none true c.args.log.now.notes old;
+      few = omega arith;
       room = omega arith;
       text = λ pc. refl;
     }
@@ -40,12 +41,15 @@ loop-done-preserved c =
     let within = held.within in
     let room = held.room in
     let one = c.fill_first-done.ensures.room in
+    let few = held.few in
+    let one_more = c.fill_first-done.ensures.few in
     record {
       within = omega (arith, within, long, upto);
       same = c.fill_first-done.ensures.value
           ∙ ap (λ (x : AddressSpace). record x { space = with_bytes x.space (c.args.from + done) (take count rest) }) held.same
           ∙ ap (λ m. record old { space = m }) (filled_more old.space c.args.from done count bytes within);
       notes = notes_both true c.args.log.now.notes c.loop-done.log.notes c.fill_first-done.new.log.notes old c.loop-done.self c.fill_first-done.new.self held.notes c.fill_first-done.ensures.notes;
+      few = omega (arith, few, one_more, some);
       room = omega (arith, room, one, some);
       text = λ pc. c.fill_first-done.ensures.text pc ∙ held.text pc;
     }

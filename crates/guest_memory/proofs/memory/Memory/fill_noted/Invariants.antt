@@ -10,6 +10,7 @@ invariant-loop-done l = record {
   within : l.done ≤ length l.bytes;
   same : l.self ≡ record l.fn.self { space = with_bytes l.fn.self.space l.from (take l.done l.bytes) };
   notes : Notes true l.fn.log.notes l.log.notes l.fn.self l.self;
+  few : length l.log.notes ≤ length l.fn.log.notes + l.done;
   room : l.fn.log.spare ≤ l.log.spare + l.done;
   text : SameText l.fn.self.space l.self.space;
 }

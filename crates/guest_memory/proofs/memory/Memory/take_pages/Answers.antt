@@ -19,6 +19,7 @@ loop-page-init c =
       high = omega arith;
       gone = sym (ap (λ n. record old { space = without old.space from n }) zero ∙ ap (λ m. record old { space = m }) (without_none old.space from));
       notes = notes_none true c.args.log.now.notes old;
+      few = omega arith;
       room = omega arith;
     }
 
@@ -40,6 +41,8 @@ loop-page-preserved c =
     let past = next.past in
     let room = held.room in
     let one = c.take_noted.ensures.room in
+    let few = held.few in
+    let one_more = c.take_noted.ensures.few in
     let spare : new.spare ≡ now.spare + 1 = ap (λ (x : AddressSpace). x.spare) c.take_noted.ensures.gone in
     let free : IsFree now.space at (page - at) = λ a l h. next.first a (omega (arith, l, aligned)) (omega (arith, h, past, l)) in
     record {
@@ -52,6 +55,7 @@ loop-page-preserved c =
           ∙ ap (λ m. record old { space = m; spare = new.spare })
           (without_next old.space from at page 4096 low past (subst (λ (x : AddressSpace). IsFree x.space at (page - at)) held.gone free));
       notes = notes_both true c.args.log.now.notes c.loop-page.log.notes c.take_noted.new.log.notes old now new held.notes c.take_noted.ensures.notes;
+      few = omega (arith, few, one_more, low, past, whole, aligned, start);
       room = omega (arith, room, one, low, past, whole, aligned, start);
     }
 

@@ -1,4 +1,4 @@
-use Rattle.std.proofs.Common.{◌≡◌, ◌+◌, ◌-◌, ◌*◌, ◌/◌, ◌%◌, ◌≤◌, true}
+use Rattle.std.proofs.Common.{◌≡◌, ◌+◌, ◌-◌, ◌*◌, ◌/◌, ◌%◌, ◌≤◌, length, true}
 use Rattle.guest_words.specs.Space.{without}
 use Rattle.guest_memory.specs.Noting.{Notes}
 use Rattle.guest_memory.proofs.memory.Memory.take_pages.Given as goal
@@ -11,6 +11,7 @@ invariant-loop-page l = record {
   high : l.at ≤ l.from + 4096 * l.count;
   gone : l.self ≡ record l.fn.self { space = without l.fn.self.space l.from (l.at - l.from); spare = l.self.spare };
   notes : Notes true l.fn.log.notes l.log.notes l.fn.self l.self;
+  few : length l.log.notes ≤ length l.fn.log.notes + (l.at - l.from) / 4096;
   room : l.fn.log.spare ≤ l.log.spare + (l.at - l.from) / 4096;
 }
 

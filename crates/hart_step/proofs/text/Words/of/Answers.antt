@@ -1,4 +1,4 @@
-use Rattle.std.proofs.Common.{◌≡◌, ◌*◌, ◌/◌, ◌%◌, ◌<◌, ap, sym, ◌∙◌, arith, refl}
+use Rattle.std.proofs.Common.{◌*◌, ◌/◌, arith, refl}
 use Rattle.hart_step.specs.Registers.{Stretch}
 use Rattle.hart_step.proofs.Texts.{is_in-pages, multiple}
 use Rattle.hart_step.proofs.text.Words.of.Goals as goal

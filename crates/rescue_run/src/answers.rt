@@ -1,0 +1,196 @@
+//! What each kind of command is answered.
+ghost use Rattle.std.specs.Prelude.{◌≡◌, None, Some};
+ghost use Rattle.edge_ports.specs.Seen.{seen};
+ghost use Rattle.machine_core.specs.Machine.{AllOpen};
+ghost use Rattle.rescue_report.specs.Report.{report_of};
+ghost use Rattle.rescue_report.specs.Summary.{summary_of};
+ghost use Rattle.rescue_run.specs.Headline.{IsListing, IsLoadRun, IsRunOn};
+ghost use Rattle.rescue_run.specs.Lines.{line_of};
+ghost use Rattle.rescue_run.specs.Puts.{IsSaid, IsTold, PutsText};
+ghost use Rattle.rescue_run.specs.Statuses.{status_of};
+ghost use Rattle.rescue_run.specs.Tasks.{CanRun};
+ghost use Rattle.rescue_run.specs.Top.{told, StaySame};
+
+use crate::answer::Answer;
+use crate::load::{LoadRan, run_load};
+use crate::outcome::Outcome;
+use crate::put::{put_line, put_list, put_report, put_summary};
+use crate::run::{Ran, run};
+use crate::start::Start;
+use crate::task::LoadTask;
+use edge_ports::{Devices, Port, Sink, Source};
+use elf_symbols::Symbols;
+use std::alloc::Global;
+
+/// The answer of a command for which no machine was started.
+fn still<S, T, P>(outcome: Outcome, devices: Devices<S, T, P>) -> Answer<S, T, P>
+    ensures value { result ≡ record {
+      status = status_of outcome;
+      outcome = outcome;
+      devices = devices;
+      history = None;
+      points = None;
+    } }
+{
+    Answer {
+        status: outcome.status(),
+        outcome,
+        devices,
+        history: None,
+        points: None,
+    }
+}
+
+/// The answer of a command that nothing is done for: its line is put.
+pub fn answer_with_line<S, T, P, R: Sink>(
+    alloc: Global,
+    outcome: Outcome,
+    devices: Devices<S, T, P>,
+    report: &mut R,
+) -> Answer<S, T, P>
+    ensures said { IsSaid outcome result.outcome }
+    ensures line { IsTold (line_of result.outcome) (R.end report.old) (R.end report.new) }
+    ensures answer { result ≡ record {
+      status = status_of result.outcome;
+      outcome = result.outcome;
+      devices = devices;
+      history = None;
+      points = None;
+    } }
+{
+    let outcome = put_line(alloc, report, outcome);
+    still(outcome, devices)
+}
+
+/// The answer of a list: it is put.
+pub fn answer_list<S: Source, T: Sink, P: Port, R: Sink>(
+    alloc: Global,
+    symbols: &Symbols,
+    devices: Devices<S, T, P>,
+    report: &mut R,
+) -> Answer<S, T, P>
+    ensures listing { IsListing symbols.now (seen S.end T.end P.end devices) (R.end report.old)
+        (R.end report.new) (told S.end T.end P.end result) }
+    ensures status { result.status ≡ status_of result.outcome }
+    ensures same { StaySame result.history devices result.devices }
+{
+    let outcome = put_list(alloc, report, symbols);
+    still(outcome, devices)
+}
+
+/// The answer of a run: its report is put.
+fn answer_of_run<S, T, P, R: Sink>(
+    alloc: Global,
+    ran: Ran<S, T, P>,
+    report: &mut R,
+) -> Answer<S, T, P>
+    ensures puts { PutsText (report_of ran.history.entries ran.points) ran.ending result.outcome
+        (R.end report.old) (R.end report.new) }
+    ensures answer { result ≡ record {
+      status = status_of result.outcome;
+      outcome = result.outcome;
+      devices = ran.devices;
+      history = Some ran.history;
+      points = Some ran.points;
+    } }
+{
+    let Ran {
+        history,
+        points,
+        devices,
+        ending,
+    } = ran;
+    let outcome = put_report(alloc, report, &history, &points, ending);
+    Answer {
+        status: outcome.status(),
+        outcome,
+        devices,
+        history: Some(history),
+        points: Some(points),
+    }
+}
+
+/// Runs what was loaded on the devices.
+pub fn answer_run<S: Source, T: Sink, P: Port, R: Sink>(
+    alloc: Global,
+    start: &Start,
+    devices: Devices<S, T, P>,
+    report: &mut R,
+) -> Answer<S, T, P>
+    requires can { CanRun start.now }
+    requires open { AllOpen (seen S.end T.end P.end devices) }
+    ensures run { IsRunOn start.now (seen S.end T.end P.end devices) (R.end report.old)
+        (R.end report.new) (told S.end T.end P.end result) }
+    ensures status { result.status ≡ status_of result.outcome }
+    ensures same { StaySame result.history devices result.devices }
+{
+    match run(alloc, start, devices) {
+        Err(devices) => answer_with_line(alloc, Outcome::Memory, devices, report),
+        Ok(ran) => answer_of_run(alloc, ran, report),
+    }
+}
+
+/// The answer of the run of the load of this number with so many bytes of input: its summary is
+/// put, and the devices that were handed in stay as they are.
+fn answer_of_load<S, T, P, R: Sink>(
+    alloc: Global,
+    number: u64,
+    bytes: u64,
+    ran: LoadRan,
+    devices: Devices<S, T, P>,
+    report: &mut R,
+) -> Answer<S, T, P>
+    ensures puts { PutsText (summary_of number bytes ran.devices.out.given ran.history.entries)
+        ran.ending result.outcome (R.end report.old) (R.end report.new) }
+    ensures answer { result ≡ record {
+      status = status_of result.outcome;
+      outcome = result.outcome;
+      devices = devices;
+      history = Some ran.history;
+      points = Some ran.points;
+    } }
+{
+    let Ran {
+        history,
+        points,
+        devices: own,
+        ending,
+    } = ran;
+    let outcome = put_summary(
+        alloc,
+        report,
+        number,
+        bytes,
+        own.out.given(),
+        &history,
+        ending,
+    );
+    Answer {
+        status: outcome.status(),
+        outcome,
+        devices,
+        history: Some(history),
+        points: Some(points),
+    }
+}
+
+/// Runs a load on devices of its own.
+pub fn answer_load<S: Source, T: Sink, P: Port, R: Sink>(
+    alloc: Global,
+    load: LoadTask,
+    devices: Devices<S, T, P>,
+    report: &mut R,
+) -> Answer<S, T, P>
+    requires can { CanRun load.start }
+    ensures run { IsLoadRun load (seen S.end T.end P.end devices) (R.end report.old)
+        (R.end report.new) (told S.end T.end P.end result) }
+    ensures status { result.status ≡ status_of result.outcome }
+    ensures same { StaySame result.history devices result.devices }
+{
+    let number = load.number;
+    let bytes = load.input.items().len() as u64;
+    match run_load(alloc, load) {
+        Err(_) => answer_with_line(alloc, Outcome::Memory, devices, report),
+        Ok(ran) => answer_of_load(alloc, number, bytes, ran, devices, report),
+    }
+}

@@ -1,0 +1,84 @@
+#include "thread.h"
+#include "calls.h"
+#include "memory.h"
+
+enum { WAIT = 0, WAKE = 1, ALL = 0x7fffffff, WANT_OF_MEMORY = -12 };
+
+/* VM, FS, FILES, SIGHAND, THREAD and SYSVSEM make a thread of Linux's. With PARENT_SETTID and
+   CHILD_CLEARTID its tid stands at a place, and becomes 0 there when the hart is gone. */
+enum { THREAD_FLAGS = 0x350f00 };
+
+enum { STACK_SIZE = 16 * PAGE_SIZE };
+
+/* The first bytes that a new hart takes from its stack; clone.S knows their order. */
+struct first { void *argument; void (*body)(void *); };
+
+/* In clone.S. */
+long clone(long flags, struct first *stack, int *tid, long tls, int *clear);
+
+long start(struct thread *thread, void (*body)(void *), void *argument)
+{
+    thread->stack = map(STACK_SIZE);
+    if (!thread->stack)
+        return WANT_OF_MEMORY;
+    /* without its lowest page: a stack that overflows has to meet a place where nothing is */
+    unmap(thread->stack, PAGE_SIZE);
+    struct first *first = (struct first *)((char *)thread->stack + STACK_SIZE) - 1;
+    first->argument = argument;
+    first->body = body;
+    long tid = clone(THREAD_FLAGS, first, &thread->tid, 0, &thread->tid);
+    if (tid < 0)
+        unmap(thread->stack, STACK_SIZE);
+    return tid < 0 ? tid : 0;
+}
+
+long sleep_at(int *place, int value)
+{
+    return call_of_six(CALL_FUTEX, (long)place, WAIT, value, 0, 0, 0);
+}
+
+static void wake_at(int *place, int most)
+{
+    call_of_six(CALL_FUTEX, (long)place, WAKE, most, 0, 0, 0);
+}
+
+void join(struct thread *thread)
+{
+    int tid;
+    while ((tid = __atomic_load_n(&thread->tid, __ATOMIC_ACQUIRE)))
+        sleep_at(&thread->tid, tid);
+    unmap(thread->stack, STACK_SIZE);
+}
+
+/* A lock is free, held, or held while others may sleep at it. */
+enum { FREE, HELD, AWAITED };
+
+void take(struct lock *lock)
+{
+    int expected = FREE;
+    if (__atomic_compare_exchange_n(&lock->state, &expected, HELD, 0, __ATOMIC_ACQUIRE,
+                                    __ATOMIC_RELAXED))
+        return;
+    while (__atomic_exchange_n(&lock->state, AWAITED, __ATOMIC_ACQUIRE) != FREE)
+        sleep_at(&lock->state, AWAITED);
+}
+
+void give(struct lock *lock)
+{
+    if (__atomic_exchange_n(&lock->state, FREE, __ATOMIC_RELEASE) == AWAITED)
+        wake_at(&lock->state, 1);
+}
+
+void wait_for(struct condition *condition, struct lock *lock)
+{
+    int told = condition->told;
+    give(lock);
+    sleep_at(&condition->told, told);
+    take(lock);
+}
+
+void tell_all(struct condition *condition)
+{
+    __atomic_add_fetch(&condition->told, 1, __ATOMIC_RELAXED);
+    wake_at(&condition->told, ALL);
+}
