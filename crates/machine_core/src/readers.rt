@@ -58,6 +58,7 @@ impl<K: Origin, S: Source, T: Sink, P: Port> Quiet<K, S, T, P> {
     /// The number of slots for harts.
     pub fn harts(&self) -> usize
         ensures value { result ≡ length self.now.state.slots }
+        ensures most { length self.now.state.slots ≤ HARTS }
     {
         let core: &Core<K, S, T, P> = &self.core;
         core.inner.engine.harts()
