@@ -1,6 +1,7 @@
 //! What can be read of a machine with no call open. No call here takes memory.
-ghost use Rattle.std.specs.Prelude.{◌≡◌, length, slice_get};
+ghost use Rattle.std.specs.Prelude.{◌≡◌, ◌≤◌, length, slice_get};
 ghost use Rattle.std.specs.Option.{option_copied, option_map};
+ghost use Rattle.guest_words.specs.declared.limits.TheConstants.{HARTS};
 ghost use Rattle.hart_slots.specs.Rejoined.{hart_of};
 ghost use Rattle.run_history.specs.Legal.{is_ready_at};
 ghost use Rattle.machine_core.specs.Machine.{IsAsTold};
