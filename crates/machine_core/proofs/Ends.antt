@@ -17,7 +17,9 @@ use Rattle.hart_step.specs.Returns.{CanReturn}
 use Rattle.open_calls.specs.Nest.{Level, Nest, closed_to, closing, flat, flat_from, joined}
 use Rattle.open_calls.specs.Stacked.{Stacked}
 use Rattle.open_calls.proofs.Nests.{flat_all}
-use Rattle.machine_core.specs.Inner.{Holds, Inner, gone_of, whole_in}
+use Rattle.machine_core.specs.Inner.{Holds, Inner, gone_of, machine_in, opened_in, whole_in}
+use Rattle.machine_core.specs.Machine.{whole}
+use Rattle.machine_core.specs.OpenSteps.{abandoned_of}
 use Rattle.machine_core.specs.QuietSteps.{EndsBy}
 use Rattle.machine_core.proofs.Gone.{gone_closed, gone_in-append}
 use Rattle.machine_core.proofs.Holding.{run_so_far}
@@ -101,7 +103,5 @@ module _ (start : State) (told : Seen) (w v : Inner) (p q : Noted) (k : Holds st
           none = none;
         }
 
-    pub left : (d : Seen) → whole_in v d ≡ record (whole_in w d) { abandoned = true }
-    left d =
-        (λ i. record { history = flat_from v.hart (left_none i) v.nest.entries; state = v.live.state; devices = d; abandoned = v.abandoned })
-        ∙ (λ i. record { history = left_entries i; state = (live i).state; devices = d; abandoned = given_up i })
+    pub left : (d : Seen) → machine_in v d ≡ abandoned_of (whole (opened_in w d))
+    left d = λ i. record { history = left_entries i; state = (live i).state; devices = d; abandoned = given_up i }

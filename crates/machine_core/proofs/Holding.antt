@@ -20,7 +20,7 @@ use Rattle.run_history.proofs.Quietness.{alone_quiet, quiet_alone}
 use Rattle.run_history.proofs.StepsAfter.{within_run}
 use Rattle.hart_step.specs.Live.{Live, space_of}
 use Rattle.hart_step.specs.Returns.{CanReturn}
-use Rattle.open_calls.specs.Nest.{Level, Nest, closed_to, flat, flat_from, lowest}
+use Rattle.open_calls.specs.Nest.{Level, Nest, closed_to, closing, flat, flat_from, lowest}
 use Rattle.open_calls.specs.Stacked.{Stacked}
 use Rattle.open_calls.proofs.Nests.{depth_closed, flat_closed, flat_push}
 use Rattle.open_calls.proofs.Stacks.{acts, closes_to, flat_run, pushes}
@@ -28,6 +28,9 @@ use Rattle.machine_core.specs.Inner.{Holds, Inner, IsGoing, IsUnderSame, gone_of
 use Rattle.machine_core.specs.Machine.{IsStart}
 use Rattle.machine_core.proofs.Gone.{gone_closed, gone_in-append}
 use Rattle.machine_core.proofs.Nesting.{flat_acts, lowest_closed, lowest_under}
+
+abbrev outers_of : Nest → List Level
+outers_of n = n.outers
 
 -- entries and notes are put behind those of the calls that stay open; the notes lead back
 pub record Puts (put : List Entry → List Entry) (w v : Inner) : Type 0 where
@@ -57,6 +60,13 @@ puts_under put w v x =
           let left : 0 < length c.outers = omega (arith, some, depth) in
           low ∙ lowest_under c.outers (put c.entries) c.entries left ∙ lowest_closed w.hart (frames_at v.live.state w.hart) w.nest.outers w.nest.entries w.nest.notes left;
     }
+
+-- with no call open none opens
+closed_none : (h keep : ℕ) (n : Nest) → n.outers ≡ [] → (closed_to h keep n).outers ≡ []
+closed_none h keep n none = ap (λ os. outers_of (closing h keep os n.entries n.notes)) none
+
+pub puts_none : (put : List Entry → List Entry) (w v : Inner) → Puts put w v → w.nest.outers ≡ [] → v.nest.outers ≡ []
+puts_none put w v x none = ap outers_of x.nest ∙ closed_none w.hart (frames_at v.live.state w.hart) w.nest none
 
 -- what is put is behind the whole history
 pub puts_push : (more : List Entry) (w v : Inner) → Puts (λ es. es ++ more) w v → flat v.hart v.nest ≡ flat w.hart w.nest ++ more

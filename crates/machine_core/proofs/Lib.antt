@@ -8,3 +8,6 @@ pub mod Ends
 pub mod Opening
 pub mod Fails
 pub mod Steps
+pub mod Told
+pub mod Turning
+pub mod Begins

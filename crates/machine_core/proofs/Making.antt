@@ -114,3 +114,11 @@ sees_ordinary (Request w port asked place) x e is = cc
 sees_ordinary (Arrival p) x e is = cc
 sees_ordinary (End code) x e is = cc
 sees_ordinary Absent x e is = cc
+
+-- a row in which no act was made leaves all parts as they were
+pub unmoved : (old new : Live) (calls room : Stack) (abandoned : Bool) (own n : ℕ) (before after : List Note) → room.nest ≡ calls.nest → room.hart ≡ calls.hart → n ≡ 0 → before ≡ [] → new.state ≡ ran old.state own n
+    → Notes false before after (space_of old) (space_of new) → (inner_of new room abandoned ≡ inner_of old calls abandoned) × (after ≡ [])
+unmoved old new calls room abandoned own n before after nest hart unmade none to notes =
+    let left = unnoted before after (space_of old) (space_of new) none notes in
+    let live = still old new own n after unmade to left.0 (spares false before after (space_of old) (space_of new) none notes) in
+    ((λ i. record { hart = hart i; nest = nest i; live = live i; abandoned = abandoned }), left.0)

@@ -1,5 +1,5 @@
 -- What a step under open calls is, by the act that was seen.
-use Rattle.std.proofs.Common.{◌≡◌, ℕ, zero, suc, ◌<◌, Bool, true, false, List, [], ◌∷◌, length, Option, Some, None, Ok, Err, OnOk, refl, ap, sym, ◌∙◌, subst, arith, slice_get}
+use Rattle.std.proofs.Common.{◌≡◌, ℕ, zero, suc, ◌<◌, ◌≤◌, Bool, true, false, List, [], ◌∷◌, length, Option, Some, None, Ok, Err, OnOk, refl, ap, sym, ◌∙◌, subst, arith, slice_get}
 use Rattle.std.specs.declared.result.Result.{Result}
 use Rattle.guest_words.specs.declared.ending.Ending.{Ending}
 use Rattle.guest_words.specs.declared.ending.Ending.TheVariants as ending
@@ -16,6 +16,7 @@ use Rattle.run_history.specs.After.{after}
 use Rattle.run_history.specs.Ahead.{ahead}
 use Rattle.run_history.specs.Faults.{fault_by, fault_of, pc_at}
 use Rattle.run_history.specs.Legal.{is_ready_slot}
+use Rattle.run_history.proofs.Ahead.{ahead_called, ahead_ran}
 use Rattle.run_history.proofs.Entries.{after-Ended}
 use Rattle.hart_step.specs.declared.next_act.Ask.{Ask}
 use Rattle.hart_step.specs.declared.next_act.NextAct.{NextAct}
@@ -25,7 +26,7 @@ use Rattle.machine_core.specs.Inner.{Inner, IsGoing, IsUnderSame, opened_in, who
 use Rattle.machine_core.specs.Kept.{HasDevices}
 use Rattle.machine_core.specs.Machine.{Machine, Opened, whole}
 use Rattle.machine_core.specs.OpenSteps.{Asks, Does, DoesBy, Enters, EntersAt, Erases, StepsTo}
-use Rattle.machine_core.specs.QuietSteps.{CallsOn, EndsBy, with_entry}
+use Rattle.machine_core.specs.QuietSteps.{CallsOn, EndsBy, Moves}
 use Rattle.machine_core.specs.Under.{Goes}
 
 pub both_ok : {A E : Type 0} (r : Result A E) (P Q R : Type 0) → (P → Q → R) → OnOk r P → OnOk r Q → OnOk r R
@@ -82,6 +83,15 @@ end_act (Request w port asked place) code is = cc
 end_act (Arrival p) code is = cc
 end_act (End other) code is = let same : other ≡ code = cc in ap End same
 end_act Absent code is = cc
+
+-- less is ahead of a hart that has moved
+pub moved_nearer : (h most : ℕ) (m n : Machine) (a : StateAct) → m.state.steps ≤ m.state.budget → Moves h most m a n → ahead n.state h < ahead m.state h
+moved_nearer h most m n (Ordinary t) within runs = subst (λ (x : Machine). ahead x.state h < ahead m.state h) (sym runs.same) (ahead_ran m.state h runs.count runs.legal within)
+moved_nearer h most m n (Fault name) within moves = absurd moves
+moved_nearer h most m n (Request w port asked place) within calls = subst (λ (x : Machine). ahead x.state h < ahead m.state h) (sym calls.same) (ahead_called m.state h calls.call calls.legal within)
+moved_nearer h most m n (Arrival p) within moves = absurd moves
+moved_nearer h most m n (End code) within moves = absurd moves
+moved_nearer h most m n Absent within moves = absurd moves
 
 -- an ended run doesn't go on
 over : (x : Ending) (w v : Inner) (d e : Seen) → EndsBy x (whole_in w d) (whole_in v e) → v.live.state.ending ≡ None → ⊥

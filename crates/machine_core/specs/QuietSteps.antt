@@ -51,11 +51,6 @@ IsStill (Arrived point) = Unit {0}
 IsStill (Idle state) = Unit {0}
 IsStill _ = ⊥
 
--- the hart can do something, or the run has ended
-abbrev pub IsBusy : Stepped → Type 0
-IsBusy (Idle state) = ⊥
-IsBusy _ = Unit {0}
-
 -- the hart stands at the entry of an active point
 abbrev pub HasArrived : Option Stepped → Type 0
 HasArrived (Some (Arrived point)) = Unit {0}
@@ -97,9 +92,14 @@ Moves h most m (Ordinary t) n = RunsOn h most m n
 Moves h most m (Request way port asked place) n = CallsOn h m n
 Moves h most m _ n = ⊥
 
+-- what a step does by which the hart doesn't move
+abbrev pub Stands : Machine → Stepped → Machine → Type 0
+Stands m Moved n = ⊥
+Stands m (Over ending) n = EndsBy ending m n
+Stands m (Arrived point) n = n ≡ m
+Stands m (Idle state) n = n ≡ m
+
 -- what a step does, by its answer
 abbrev pub Steps : ℕ → ℕ → Machine → Stepped → Machine → Type 0
 Steps h most m Moved n = Moves h most m (act_of m.state h) n
-Steps h most m (Over ending) n = EndsBy ending m n
-Steps h most m (Arrived point) n = n ≡ m
-Steps h most m (Idle state) n = n ≡ m
+Steps h most m stepped n = Stands m stepped n

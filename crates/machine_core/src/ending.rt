@@ -3,7 +3,9 @@ ghost use Rattle.std.specs.Prelude.{◌≡◌, [], true, OnErr, OnOk};
 ghost use Rattle.edge_ports.specs.Seen.{Seen};
 ghost use Rattle.run_history.specs.declared.entry.Entry.{Ended};
 ghost use Rattle.run_history.specs.Legal.{IsLegal};
-ghost use Rattle.machine_core.specs.Inner.{whole_in};
+ghost use Rattle.machine_core.specs.Inner.{machine_in, opened_in, whole_in};
+ghost use Rattle.machine_core.specs.Machine.{whole};
+ghost use Rattle.machine_core.specs.OpenSteps.{abandoned_of};
 ghost use Rattle.machine_core.specs.QuietSteps.{EndsBy};
 
 use crate::inner::Inner;
@@ -18,6 +20,8 @@ impl<K: Origin> Inner<K> {
         requires legal { IsLegal self.old.live.state (Ended ending) }
         ensures ok { OnOk result ((d : Seen)
             → EndsBy ending (whole_in self.old d) (whole_in self.new d)) }
+        ensures plain { OnOk result (self.old.nest.outers ≡ [] → (d : Seen)
+            → EndsBy ending (machine_in self.old d) (machine_in self.new d)) }
         ensures hart { self.new.hart ≡ self.old.hart }
         ensures records { self.new.live.state.records ≡ self.old.live.state.records }
         ensures none { OnOk result (self.new.nest.outers ≡ []) }
@@ -26,14 +30,16 @@ impl<K: Origin> Inner<K> {
         make_room(&mut self.calls, &mut self.pending, 0)?;
         self.engine.end(ending);
         self.calls.close_to(0);
-        self.calls.append(Entry::Ended { ending }, &mut self.pending);
+        self.calls
+            .append(Entry::Ended { ending }, &mut self.pending);
         Ok(())
     }
 
     /// The entries of all open calls become plain ones, and the machine isn't to go on.
     pub(crate) fn abandon(&mut self)
         ensures value { (d : Seen)
-            → whole_in self.new d ≡ record (whole_in self.old d) { abandoned = true } }
+            → machine_in self.new d ≡ abandoned_of (whole (opened_in self.old d)) }
+        ensures records { self.new.live.state.records ≡ self.old.live.state.records }
         ensures none { self.new.nest.outers ≡ [] }
     {
         self.calls.close_to(0);

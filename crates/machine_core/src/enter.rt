@@ -26,6 +26,7 @@ impl<K: Origin> Inner<K> {
         ensures records { self.new.live.state.records ≡ self.old.live.state.records }
         ensures nearer { OnOk result (ahead self.new.live.state self.old.hart
             < ahead self.old.live.state self.old.hart) }
+        ensures going { OnOk result (IsGoing self.new) }
         ensures deeper { OnOk result
             (length self.new.nest.outers ≡ length self.old.nest.outers + 1) }
         ensures err { OnErr result (self.new ≡ self.old) }

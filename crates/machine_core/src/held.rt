@@ -60,6 +60,7 @@ impl<K: Origin> Inner<K> {
     pub(crate) fn turn_to(&mut self, hart: u8)
         requires none { self.old.nest.outers ≡ [] }
         ensures same { self.new ≡ record self.old { hart = hart } }
+        ensures told { (d : Seen) → IsAsTold K.state (machine_in self.old d) }
     {
         self.calls.turn_to(hart);
     }

@@ -1,7 +1,6 @@
 //! Steps of a machine with no call open.
 ghost use Rattle.std.specs.Prelude.{◌≡◌, ◌≤◌, ◌<◌, [], false, length, None, Some, IfErr, IfOk, OnErr};
 ghost use Rattle.guest_words.specs.declared.limits.TheConstants.{BUDGET, HARTS};
-ghost use Rattle.guest_words.specs.CallChanges.{any_other, is_live};
 ghost use Rattle.guest_words.specs.Image.{IsLoadList};
 ghost use Rattle.guest_words.specs.Start.{start_of};
 ghost use Rattle.edge_ports.specs.DevicesMatch.{DevicesMatch};
@@ -13,7 +12,7 @@ ghost use Rattle.run_history.specs.Run.{IsRun};
 ghost use Rattle.machine_core.specs.Machine.{AllOpen};
 ghost use Rattle.machine_core.specs.Nearer.{BeginsNearer};
 ghost use Rattle.machine_core.specs.OpenSteps.{abandoned_of, Begins};
-ghost use Rattle.machine_core.specs.QuietSteps.{stepped_of, HasArrived, IsBusy, Steps};
+ghost use Rattle.machine_core.specs.QuietSteps.{stepped_of, HasArrived, Steps};
 
 use crate::inner::Inner;
 use crate::limits::{Limits, Mode};
@@ -86,7 +85,6 @@ impl<K: Origin, S: Source, T: Sink, P: Port> Quiet<K, S, T, P> {
         ensures steps { IfOk result (λ stepped. Steps hart quantum self.old stepped self.new) }
         ensures nearer { result ≡ Ok Stepped.Moved
             → ahead self.new.state hart < ahead self.old.state hart }
-        ensures busy { any_other is_live hart K.state.slots ≡ false → IfOk result IsBusy }
         ensures err { OnErr result (self.new ≡ self.old) }
     {
         let core: &mut Core<K, S, T, P> = self.core.as_mut();

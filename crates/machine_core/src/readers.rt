@@ -1,6 +1,7 @@
 //! What can be read of a machine with no call open. No call here takes memory.
-ghost use Rattle.std.specs.Prelude.{◌≡◌, length, slice_get};
+ghost use Rattle.std.specs.Prelude.{◌≡◌, ◌≤◌, length, slice_get};
 ghost use Rattle.std.specs.Option.{option_copied, option_map};
+ghost use Rattle.guest_words.specs.declared.limits.TheConstants.{HARTS};
 ghost use Rattle.hart_slots.specs.Rejoined.{hart_of};
 ghost use Rattle.run_history.specs.Legal.{is_ready_at};
 ghost use Rattle.machine_core.specs.Machine.{IsAsTold};
@@ -58,6 +59,7 @@ impl<K: Origin, S: Source, T: Sink, P: Port> Quiet<K, S, T, P> {
     /// The number of slots for harts.
     pub fn harts(&self) -> usize
         ensures value { result ≡ length self.now.state.slots }
+        ensures most { length self.now.state.slots ≤ HARTS }
     {
         let core: &Core<K, S, T, P> = &self.core;
         core.inner.engine.harts()

@@ -3,8 +3,10 @@ use Rattle.edge_ports.specs.Seen.{Seen}
 use Rattle.run_history.specs.declared.entry.Entry.{Ended}
 use Rattle.run_history.specs.Legal.{legal}
 use Rattle.open_calls.specs.Nest.{Stack, closed_to}
-use Rattle.machine_core.specs.Inner.{Inner, inner_of, whole_in}
+use Rattle.machine_core.specs.Inner.{Inner, inner_of, machine_in, whole_in}
 use Rattle.machine_core.specs.QuietSteps.{EndsBy}
+use Rattle.machine_core.specs.Machine.{Machine}
+use Rattle.machine_core.proofs.Told.{plain}
 use Rattle.machine_core.proofs.Ends.{ended_none, ends, ends_hold}
 use Rattle.machine_core.proofs.inner.Inner.end.Given as given
 use Rattle.machine_core.proofs.inner.Inner.end.Goals as goal
@@ -36,3 +38,11 @@ returns-clause-ok g c =
 pub returns-clause-none : goal.returns-clause-none
 returns-clause-none g c =
     ended_none g.K.Origin.state g.K.Origin.devices (w g c) (v g c) c.self.inside.pending c.append.new.log c.self.invariant c.args.ending (ok g c) c.end.ensures.value (nest g c)
+
+pub returns-clause-plain : goal.returns-clause-plain
+returns-clause-plain g c = λ none d.
+    let none_now = ap (λ (x : Inner). x.nest.outers) c.self.view_is ∙ none in
+    let done = ended_none g.K.Origin.state g.K.Origin.devices (w g c) (v g c) c.self.inside.pending c.append.new.log c.self.invariant c.args.ending (ok g c) c.end.ensures.value (nest g c) in
+    let made = ends g.K.Origin.state g.K.Origin.devices (w g c) (v g c) c.self.inside.pending c.append.new.log c.self.invariant c.args.ending (ok g c) c.end.ensures.value (nest g c) refl d in
+    subst (λ (x : Inner). EndsBy c.args.ending (machine_in x d) (machine_in (v g c) d)) c.self.view_is
+    (subst (λ (m : Machine × Machine). EndsBy c.args.ending m.0 m.1) (λ i. (sym (plain (w g c) d none_now) i, sym (plain (v g c) d done) i)) made)

@@ -88,3 +88,10 @@ returns-clause-nearer g c =
     subst (λ (x : Inner). ahead (v g c).live.state x.hart < ahead x.live.state x.hart) c.self.view_is
     (enters_nearer g.K.Origin.state g.K.Origin.devices (w g c) (v g c) c.self.inside.pending c.make_room.new.pending c.self.invariant (going g c) (fresh g c) c.args.point c.in_ok-kept.kept (arrives g c)
     (live g c) (nest g c) (c.open.ensures.hart ∙ c.make_room.ensures.hart) refl)
+
+pub returns-clause-going : goal.returns-clause-going
+returns-clause-going g c =
+    let e = c.in_ok-kept.ensures in
+    (enters_hold g.K.Origin.state g.K.Origin.devices (w g c) (v g c) c.self.inside.pending c.make_room.new.pending c.self.invariant (going g c) (fresh g c) c.args.point c.in_ok-kept.kept (arrives g c)
+    (live g c) (nest g c) (c.open.ensures.hart ∙ c.make_room.ensures.hart) refl
+    (record { harts = e.harts; queue = e.queue; next_tid = e.next_tid }) e.returns (c.make_room.ensures.same ∙ c.self.invariant.none)).called (let depth = ap (λ (n : Nest). length n.outers) (nest g c) in omega (arith, depth))

@@ -14,7 +14,7 @@ use Rattle.machine_core.specs.Kept.{HasDevices}
 use Rattle.machine_core.specs.QuietSteps.{CallsOn}
 use Rattle.machine_core.proofs.Asking.{asks, asks_devices, asks_hold, asks_nearer, holds_open}
 use Rattle.machine_core.proofs.Calls.{can_serve}
-use Rattle.machine_core.proofs.Holding.{Puts, puts_under}
+use Rattle.machine_core.proofs.Holding.{Puts, puts_none, puts_under}
 use Rattle.machine_core.proofs.Making.{few_notes, lead, made, some_calls, spares}
 use Rattle.machine_core.proofs.inner.Inner.serve.Given as given
 use Rattle.machine_core.proofs.inner.Inner.serve.Goals as goal
@@ -112,3 +112,7 @@ pub returns-clause-nearer : goal.returns-clause-nearer
 returns-clause-nearer g c =
     subst (λ (x : Inner). ahead (v g c).live.state x.hart < ahead x.live.state x.hart) c.self.view_is
     (asks_nearer g.K.Origin.state g.K.Origin.devices (w g c) (v g c) c.self.inside.pending c.append.new.log c.self.invariant (going g c) (fresh g c) c.in_ok-call.call (fits_it g c) (to g c) (puts_it g c))
+
+pub returns-clause-none : goal.returns-clause-none
+returns-clause-none g c = λ none.
+    puts_none (λ es. es ++ Called c.self.inside.calls.hart c.in_ok-call.call ∷ []) (w g c) (v g c) (puts_it g c) (ap (λ (x : Inner). x.nest.outers) c.self.view_is ∙ none)

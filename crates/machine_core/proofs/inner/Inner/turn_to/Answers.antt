@@ -1,0 +1,12 @@
+use Rattle.std.proofs.Common.{ap, ◌∙◌, subst}
+use Rattle.edge_ports.specs.Seen.{Seen}
+use Rattle.machine_core.specs.Inner.{Inner, inner_of, machine_in}
+use Rattle.machine_core.specs.Machine.{IsAsTold}
+use Rattle.machine_core.proofs.Told.{as_told}
+use Rattle.machine_core.proofs.inner.Inner.turn_to.Goals as goal
+
+pub returns-clause-told : goal.returns-clause-told
+returns-clause-told g c =
+    let w = inner_of c.self.inside.engine c.self.inside.calls c.self.inside.abandoned in
+    subst (λ (x : Inner). (d : Seen) → IsAsTold g.K.Origin.state (machine_in x d)) c.self.view_is
+    (as_told g.K.Origin.state g.K.Origin.devices w c.self.inside.pending c.self.invariant (ap (λ (x : Inner). x.nest.outers) c.self.view_is ∙ c.requires.none))
