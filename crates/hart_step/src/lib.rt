@@ -33,8 +33,6 @@ mod running;
 mod serving;
 mod step;
 mod stretches;
-#[cfg(test)]
-mod tests;
 mod text;
 mod wants;
 
