@@ -39,10 +39,11 @@ impl Harts {
     pub fn of(items: Vec<Hart>) -> Harts
         ensures list { result ≡ items.items }
     {
+        let others = any_reservation(&items);
         Harts {
             items,
             lent: 0,
-            others: true,
+            others,
         }
     }
 
