@@ -4,7 +4,7 @@ ghost use Rattle.guest_words.specs.Image.{IsLoadList};
 use crate::image::TEXT;
 use elf_loader::load;
 use elf_symbols::functions;
-use guest_words::limits::HARTS;
+use guest_words::limits::{BUDGET, HARTS};
 use guest_words::{Image, Points, Span};
 use plain_machine::Plain;
 use rescue_config::read_points;
@@ -29,7 +29,7 @@ pub fn replays(
     start: ReplayStart,
     entries: &[Entry],
 ) -> Result<bool, AllocError> {
-    if start.harts == 0 || start.harts > HARTS {
+    if start.harts == 0 || start.harts > HARTS || start.budget > BUDGET {
         return Ok(false);
     }
     let image = loaded(alloc, file)?;
