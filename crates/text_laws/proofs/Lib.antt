@@ -1,3 +1,4 @@
 pub mod Acts
 pub mod Memories
 pub mod Points
+pub mod Runs
