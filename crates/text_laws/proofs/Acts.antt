@@ -1,5 +1,5 @@
 -- No act of a hart changes the text.
-use Rattle.std.proofs.Common.{◌≡◌, ℕ, zero, suc, ◌+◌, ◌-◌, ◌*◌, ◌/◌, ◌%◌, ◌<◌, ◌≤◌, ◌==◌, ◌&&◌, ◌||◌, not, nat_le, nat_lt, Bool, true, false, if◌then◌else◌, List, find, option_map, length, slice_get, Option, Some, None, refl, ap, sym, ◌∙◌, subst, arith}
+use Rattle.std.proofs.Common.{◌≡◌, ℕ, zero, suc, ◌+◌, ◌-◌, ◌*◌, ◌%◌, ◌<◌, ◌≤◌, ◌==◌, ◌&&◌, ◌||◌, not, nat_le, nat_lt, Bool, true, false, if◌then◌else◌, List, find, option_map, length, slice_get, Option, Some, None, refl, sym, ◌∙◌, subst, arith}
 use Rattle.std.proofs.lemmas.Bool.{not-false, or_parts}
 use Rattle.std.proofs.lemmas.Bool.Decides.{nat_tests}
 use Rattle.std.specs.List.{range_with_len}
@@ -8,15 +8,14 @@ use Rattle.guest_words.specs.declared.act.Act.TheVariants as act
 use Rattle.guest_words.specs.declared.act.Write.{Write}
 use Rattle.guest_words.specs.declared.call.Request.{Request as Call}
 use Rattle.guest_words.specs.declared.hart.Hart.{Hart}
-use Rattle.guest_words.specs.declared.hart.Slot.{Slot}
 use Rattle.guest_words.specs.declared.image.Rights.{Rights}
 use Rattle.guest_words.specs.declared.limits.TheConstants.{HEAP_BYTES, PAGE}
 use Rattle.guest_words.specs.declared.point.Point.{Point}
 use Rattle.guest_words.specs.Act.{StateAct, Ordinary, Fault, Request, Arrival, End, Absent, act_of, written}
-use Rattle.guest_words.specs.CallChanges.{are_free, area, area_pages, clear_of, cleared, clones, exits, free_place, gained, heap_rights, lost, roused, with_break, with_parent_tid}
+use Rattle.guest_words.specs.CallChanges.{are_free, area, area_pages, clear_of, clones, exits, free_place, gained, heap_rights, lost, with_break}
 use Rattle.guest_words.specs.Calls.{is_in_area, mapped_rights, sets_parent_tid}
 use Rattle.guest_words.specs.HartAct.{hart_act}
-use Rattle.guest_words.specs.Space.{Space, can_write, low_bytes, page_up, pages_in, with_zeros, without}
+use Rattle.guest_words.specs.Space.{Space, can_write, low_bytes, page_up, pages_in, with_zeros}
 use Rattle.guest_words.specs.State.{State, stored, with_hart}
 use Rattle.guest_words.specs.Widths.{bytes_in}
 use Rattle.run_history.specs.After.{moved, next}
@@ -138,7 +137,7 @@ module _ (s : State) (h : ℕ) (safe : IsTextSafe s) where
 
   area_past : (place size : ℕ) → (not (place % PAGE == 0) || (size == 0) || not (is_in_area place (pages_in size))) ≡ false → 0x3f80000000 ≤ place
   area_past place size is =
-      let inside : is_in_area place (pages_in size) ≡ true = not-false _ ((or_parts _ _ is).1) in
+      let inside : is_in_area place (pages_in size) ≡ true = not-false _ ((or_parts (not (place % PAGE == 0) || (size == 0)) _ is).1) in
       let low : nat_le 0x3f80000000 place ≡ true = and_left _ _ inside in
       grind (arith, nat_tests, low)
 

@@ -1,17 +1,14 @@
--- Points get spent along a run, and change in nothing else: a hart arrives at no more of them.
-use Rattle.std.proofs.Common.{◌≡◌, ℕ, ◌-◌, ◌==◌, Bool, true, false, not, ◌&&◌, nat_lt, if◌then◌else◌, List, [], ◌∷◌, map, find, Option, Some, None, option_map, refl, ap, sym, ◌∙◌, subst, arith}
+-- Points only get spent along a run: where none was active at an address, none becomes active.
+use Rattle.std.proofs.Common.{◌≡◌, ℕ, ◌-◌, ◌==◌, Bool, true, false, not, ◌&&◌, nat_lt, if◌then◌else◌, List, [], ◌∷◌, find, Option, Some, None, option_map, refl, ap, ◌∙◌, arith}
 use Rattle.std.proofs.lemmas.Bool.Decides.{nat_tests}
-use Rattle.guest_words.specs.declared.hart.Hart.{Hart}
 use Rattle.guest_words.specs.declared.limits.TheConstants.{FRAMES}
 use Rattle.guest_words.specs.declared.point.Point.{Point}
-use Rattle.guest_words.specs.declared.point.PointRef.{PointRef}
-use Rattle.guest_words.specs.HartAct.{arrival_of}
 use Rattle.guest_words.specs.Points.{active_at, is_active, is_on, is_spent, reference_of, spent, spent_at, spent_once}
 use Rattle.guest_words.specs.State.{State, enter}
 use Rattle.run_history.specs.declared.entry.Entry.{Entry, Ran, Entered, Called, Rescued', Ended, Row_of-Entry, end_of-Entry, more_of-Entry}
 use Rattle.run_history.specs.After.{after, after_row, rescued_from, state_after}
-use Rattle.run_history.proofs.Ands.{and_left, and_right, if_by}
-use Rattle.run_history.proofs.Kept.{Rest, called_keeps, enter_keeps, ran_keeps, rescued_keeps}
+use Rattle.run_history.proofs.Ands.{if_by}
+use Rattle.run_history.proofs.Kept.{Rest, called_keeps, ran_keeps}
 use Rattle.text_laws.specs.Texts.{FewerArrivals}
 
 -- where no point was active at an address, none is

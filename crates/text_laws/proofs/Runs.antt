@@ -1,6 +1,5 @@
 -- A run changes no instruction.
-use Rattle.std.proofs.Common.{◌≡◌, ℕ, zero, suc, ◌≤◌, ◌&&◌, Bool, true, false, List, [], ◌∷◌, length, refl, ap, sym, ◌∙◌, subst}
-use Rattle.guest_words.specs.declared.point.PointRef.{PointRef}
+use Rattle.std.proofs.Common.{◌≡◌, ℕ, zero, suc, true, false, List, [], ◌∷◌, length, refl, ap}
 use Rattle.guest_words.specs.declared.record.Record.{Record}
 use Rattle.guest_words.specs.declared.record.Way.{Way}
 use Rattle.guest_words.specs.declared.record.Way.TheVariants as way
@@ -23,6 +22,9 @@ ran_kept (suc n) s h safe =
     let first = next_kept s h safe in
     kept_both s (next s h) (ran (next s h) h n) first (ran_kept n (next s h) h (safe_after s (next s h) safe first))
 
+fits_way : (s : State) (w : Way) (fd asked place : ℕ) (call : Record) → fits s (Request w fd asked place) call ≡ true → is_same_way call.way w ≡ true
+fits_way s w fd asked place call fit = and_left _ _ (and_left _ _ (and_left _ _ fit))
+
 -- the bytes of a read are no more than were asked for, at a place that can be written
 placed_kept : (s : State) (h : ℕ) (call : Record) → IsTextSafe s → fits s (act_of s h) call ≡ true
     → TextKept s (placed (with_record s call) call.way (read_place (act_of s h)) call.bytes)
@@ -35,8 +37,14 @@ placed_kept s h call safe fit = by call.way refl
         let may = (request_servable s h way.Read fd asked place at).way in
         stored_keeps s.memory place call.bytes
         (lacks_written s.memory place asked (length call.bytes) safe.apart may.2 (fits_short s way.Read fd asked place call fit))
-    read (Request way.Write fd asked place) at is fit = let same = and_left _ _ (and_left _ _ (and_left _ _ fit)) in let other = ap (λ (w : Way). is_same_way w way.Write) is in cc
-    read (Request way.Close fd asked place) at is fit = let same = and_left _ _ (and_left _ _ (and_left _ _ fit)) in let other = ap (λ (w : Way). is_same_way w way.Close) is in cc
+    read (Request way.Write fd asked place) at is fit =
+        let same : is_same_way call.way way.Write ≡ true = fits_way s way.Write fd asked place call fit in
+        let other : is_same_way call.way way.Write ≡ false = ap (λ (w : Way). is_same_way w way.Write) is in
+        cc
+    read (Request way.Close fd asked place) at is fit =
+        let same : is_same_way call.way way.Close ≡ true = fits_way s way.Close fd asked place call fit in
+        let other : is_same_way call.way way.Close ≡ false = ap (λ (w : Way). is_same_way w way.Close) is in
+        cc
     read (Arrival point) at is fit = cc
     read (End code) at is fit = cc
     read Absent at is fit = cc
