@@ -91,7 +91,8 @@ pub fn list(alloc: Global, texts: &[&str]) -> Result<Vec<String>, AllocError> {
     Ok(words)
 }
 
-fn shelf(alloc: Global, case: &Case) -> Result<MemoryShelf, AllocError> {
+/// The files of a case.
+pub fn shelf(alloc: Global, case: &Case) -> Result<MemoryShelf, AllocError> {
     let mut files = Vec::new(alloc);
     files.push(file(alloc, "p", image(alloc, case.words, case.data)?)?)?;
     if let Some(points) = case.points {
