@@ -83,8 +83,9 @@ fn carry_out(hart: &mut Hart, inst: &Inst) -> bool
 }
 
 impl Engine {
-    /// Register acts of a ready hart that were made beside the run become acts of it: the hart after
-    /// them stands in its slot, and their steps are counted. Makes no act again, and takes no memory.
+    /// Register acts of a ready hart that were made beside the run become acts of it: the hart
+    /// after them stands in its slot, and their steps are counted. Makes no act again, and takes
+    /// no memory.
     pub fn stretch(&mut self, hart: u8, after: Hart, count: u32)
         requires some { 1 ≤ count }
         requires stretch { (base : Hart) × IsStretch self.old.state hart base after count }
