@@ -13,3 +13,5 @@ pub mod Inside
 pub mod DeviceAnswers
 pub mod Legs
 pub mod SlotActs
+pub mod Stretches
+pub mod TextPages
