@@ -22,6 +22,9 @@ const ENTRIES: usize = 64;
 /// And so many notes at least.
 const NOTES: u64 = 256;
 
+/// And at most so many beside those that are asked for.
+const AHEAD: u64 = 65_536;
+
 /// The calls that a hart has open, and the history: what has been since the innermost call was
 /// entered, and what was before each.
 #[derive(Drop)]
@@ -138,7 +141,9 @@ impl Calls {
         if self.acts > 0 && notes <= self.notes {
             return Ok(());
         }
-        self.refill(notes.max(NOTES))
+        // As many as there are already, so that a long call is seldom refilled.
+        let ahead = self.top.log.length().min(AHEAD);
+        self.refill(notes.max(NOTES).max(ahead))
     }
 
     fn refill(&mut self, notes: u64) -> Result<(), MemoryWant>
