@@ -3,10 +3,13 @@
 #![tactic(auto)]
 
 mod active;
+mod began;
 mod begin;
+mod commit;
 mod ending;
 mod enter;
 mod failing;
+mod gated;
 mod held;
 mod inner;
 mod limits;
@@ -15,11 +18,16 @@ mod origin;
 mod quiet;
 mod readers;
 mod room;
+mod same_hart;
 mod serve;
+mod start_points;
 mod stepped;
+mod stretches;
 mod turns;
 mod under;
 
+pub use began::Began;
+pub use commit::Commit;
 pub use limits::{Limits, Mode};
 pub use machine::{Active, Begin, Next, Quiet};
 pub use origin::Origin;
