@@ -45,7 +45,7 @@ pub record AreSorted (buffers : List PageBuffer) : Type 0 where
   pub each : All IsPageBuffer buffers
   pub apart : AllPairs (λ a b. end_of a ≤ b.from) buffers
 
--- the first of so many buffers lie side by side, page after page
+-- so many of the first buffers lie side by side, page after page
 pub record AreAdjacent (buffers : List PageBuffer) (count : ℕ) : Type 0 where
   pub starts :
       (k : ℕ) (d : PageBuffer)

@@ -29,8 +29,8 @@ impl Pages {
     }
 }
 
-// The beginning of the area, or the end of the first pages side by side, behind which so many pages
-// are missing. Looks once at pages that lie side by side.
+// The beginning of the area, or the end of a page of it, the first behind which so many pages are
+// missing. Pages that lie side by side are passed over at once.
 fn lowest_gap(pages: &[PageBuffer], count: u64) -> Option<u64>
     requires sorted { AreSorted pages.now }
     ensures value { result ≡ free_place (cells_of pages.now) count }
