@@ -31,3 +31,4 @@ mod replay;
 mod rescues;
 #[cfg(test)]
 mod seeds;
+mod stretches;
