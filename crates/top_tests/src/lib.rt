@@ -31,4 +31,5 @@ mod replay;
 mod rescues;
 #[cfg(test)]
 mod seeds;
+#[cfg(test)]
 mod stretches;
