@@ -1,11 +1,10 @@
 -- Stretches of register acts: the text and the points of the start serve at any time of the run.
-use Rattle.std.proofs.Common.{◌≡◌, ℕ, zero, suc, ◌<◌, ◌≤◌, ◌==◌, Bool, true, false, ◌&&◌, List, [], ◌∷◌, length, Option, Some, None, Ok, Err, IfOk, option_map, refl, ap, sym, ◌∙◌, subst, slice_get, arith}
+use Rattle.std.proofs.Common.{◌≡◌, ℕ, zero, suc, ◌≤◌, ◌==◌, true, List, [], ◌∷◌, length, Option, Some, None, Ok, Err, IfOk, option_map, refl, ap, sym, ◌∙◌, slice_get, arith}
 use Rattle.std.proofs.lemmas.Bool.{eqb-true}
 use Rattle.std.specs.declared.result.Result.{Result}
 use Rattle.guest_words.specs.declared.hart.Frame.{Frame}
 use Rattle.guest_words.specs.declared.hart.Hart.{Hart}
 use Rattle.guest_words.specs.declared.hart.Slot.{Slot}
-use Rattle.guest_words.specs.declared.inst.Inst.{Inst}
 use Rattle.guest_words.specs.declared.point.Point.{Point}
 use Rattle.guest_words.specs.declared.point.PointRef.{PointRef}
 use Rattle.guest_words.specs.Harts.{is_ready}
@@ -15,7 +14,6 @@ use Rattle.guest_words.specs.State.{State}
 use Rattle.edge_ports.specs.Seen.{Seen}
 use Rattle.hart_slots.specs.Rejoined.{hart_of}
 use Rattle.undo_log.specs.Noted.{Noted}
-use Rattle.run_history.specs.declared.entry.Entry.{Entry}
 use Rattle.run_history.specs.Quiet.{are_quiet}
 use Rattle.run_history.proofs.Ands.{and_left, and_right}
 use Rattle.run_history.proofs.Staying.{state_after_stays}

@@ -1,7 +1,7 @@
-use Rattle.std.proofs.Common.{◌≡◌, ◌<◌, ℕ, length, arith, ap, sym, ◌∙◌, subst}
+use Rattle.std.proofs.Common.{◌≡◌, ℕ, arith, ap, sym, ◌∙◌, subst}
 use Rattle.edge_ports.specs.Seen.{seen as told}
 use Rattle.machine_core.specs.Commits.{CommitsTo}
-use Rattle.machine_core.specs.Inner.{Inner, machine_in}
+use Rattle.machine_core.specs.Inner.{machine_in}
 use Rattle.machine_core.specs.Machine.{Machine}
 use Rattle.machine_core.specs.Turns.{CanTurn}
 use Rattle.machine_core.proofs.Appending.{commit_appends}
@@ -21,7 +21,7 @@ commit-requires-clause-can g c =
       within = omega (arith, slots, few);
     })
 
-commits : (g : given.Over) (c : goal.After-commit g)
+commits : (g : given.Over) (c : goal.After-self-1 g)
     → CommitsTo c.args.hart c.args.base c.args.after c.args.count c.args.self.now c.commit.result (machine_in c.commit.new.self (told g.S.Source.end g.T.Sink.end g.P.Port.end c.as_mut-core.result.now.devices))
 commits g c =
     let d = told g.S.Source.end g.T.Sink.end g.P.Port.end c.as_mut-core.result.now.devices in
