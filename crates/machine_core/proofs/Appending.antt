@@ -1,24 +1,19 @@
 -- Steps only append.
-use Rattle.std.proofs.Common.{◌≡◌, ℕ, ◌<◌, Bool, true, false, List, [], ◌∷◌, ◌++◌, length, Ok, Err, IfOk, OnErr, refl, ap, sym, ◌∙◌, append_assoc, rules}
-use Rattle.std.specs.declared.result.Result.{Result}
+use Rattle.std.proofs.Common.{◌≡◌, ℕ, ◌<◌, Bool, true, false, List, [], ◌∷◌, ◌++◌, length, refl, ap, sym, ◌∙◌, append_assoc, rules}
 use Rattle.guest_words.specs.declared.hart.Hart.{Hart}
-use Rattle.guest_words.specs.declared.memory_want.MemoryWant.{MemoryWant}
 use Rattle.guest_words.specs.Act.{StateAct, Ordinary, Fault, Request, Arrival, End, Absent, act_of}
 use Rattle.guest_words.specs.Endings.{is_budget_spent}
 use Rattle.guest_words.specs.State.{State}
-use Rattle.run_history.specs.declared.entry.Entry.{Entry, Ran, Entered, Called, Ended}
+use Rattle.run_history.specs.declared.entry.Entry.{Entry, Ran, Entered, Called}
 use Rattle.run_history.specs.LastEntry.{with_acts}
 use Rattle.open_calls.specs.Nest.{Level, flat_from, joined, lowest, lowest_from}
 use Rattle.open_calls.proofs.Nests.{flat_push}
 use Rattle.machine_core.specs.declared.commit.Commit.{Commit}
 use Rattle.machine_core.specs.declared.commit.Commit.TheVariants as commit
-use Rattle.machine_core.specs.declared.stepped.Stepped.{Stepped}
-use Rattle.machine_core.specs.declared.stepped.Stepped.TheVariants.{Moved, Arrived, Idle, Ended as Over}
 use Rattle.machine_core.specs.Appends.{Appends}
 use Rattle.machine_core.specs.Commits.{CommitsTo}
 use Rattle.machine_core.specs.Machine.{Machine, Opened, history_of}
 use Rattle.machine_core.specs.OpenSteps.{Does, DoesBy, StepsTo}
-use Rattle.machine_core.specs.QuietSteps.{Moves, Steps}
 use Rattle.machine_core.proofs.Nesting.{flat_acts, lowest_under}
 
 pub appends_same : (old new : List Entry) → new ≡ old → Appends old new
@@ -32,23 +27,6 @@ appends_more old mid new more a parts = record {
 
 history_same : (m n : Machine) → n ≡ m → Appends m.history n.history
 history_same m n same = appends_same m.history n.history (ap (λ (x : Machine). x.history) same)
-
--- with no call open
-
-moves_append : (h most : ℕ) (m n : Machine) (a : StateAct) → Moves h most m a n → Appends m.history n.history
-moves_append h most m n (Ordinary t) runs = record { more = Ran h runs.count ∷ []; parts = ap (λ (x : Machine). x.history) runs.same }
-moves_append h most m n (Fault name) moves = absurd moves
-moves_append h most m n (Request w port asked place) calls = record { more = Called h calls.call ∷ []; parts = ap (λ (x : Machine). x.history) calls.same }
-moves_append h most m n (Arrival p) moves = absurd moves
-moves_append h most m n (End code) moves = absurd moves
-moves_append h most m n Absent moves = absurd moves
-
-pub step_appends : (h most : ℕ) (m n : Machine) (r : Result Stepped MemoryWant) → IfOk r (λ x. Steps h most m x n) → OnErr r (n ≡ m) → Appends m.history n.history
-step_appends h most m n (Ok Moved) moves err = moves_append h most m n (act_of m.state h) moves
-step_appends h most m n (Ok (Over x)) ends err = record { more = Ended x ∷ []; parts = ap (λ (y : Machine). y.history) ends.same }
-step_appends h most m n (Ok (Arrived p)) same err = history_same m n same
-step_appends h most m n (Ok (Idle t)) same err = history_same m n same
-step_appends h most m n (Err want) ok same = history_same m n same
 
 pub commit_appends : (h : ℕ) (base to : Hart) (count : ℕ) (m : Machine) (r : Commit) (n : Machine) → CommitsTo h base to count m r n → Appends m.history n.history
 commit_appends h base to count m commit.Committed n came = record { more = Ran h count ∷ []; parts = ap (λ (x : Machine). x.history) came.2.same }

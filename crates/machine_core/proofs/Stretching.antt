@@ -1,10 +1,10 @@
 -- Stretches of register acts: the text and the points of the start serve at any time of the run.
-use Rattle.std.proofs.Common.{◌≡◌, ℕ, zero, suc, ◌<◌, ◌≤◌, ◌==◌, Bool, true, false, ◌&&◌, List, [], ◌∷◌, length, Option, Some, None, option_map, refl, ap, sym, ◌∙◌, subst, slice_get, arith}
+use Rattle.std.proofs.Common.{◌≡◌, ℕ, zero, suc, ◌≤◌, ◌==◌, true, List, [], ◌∷◌, length, Option, Some, None, Ok, Err, IfOk, option_map, refl, ap, sym, ◌∙◌, slice_get, arith}
 use Rattle.std.proofs.lemmas.Bool.{eqb-true}
+use Rattle.std.specs.declared.result.Result.{Result}
 use Rattle.guest_words.specs.declared.hart.Frame.{Frame}
 use Rattle.guest_words.specs.declared.hart.Hart.{Hart}
 use Rattle.guest_words.specs.declared.hart.Slot.{Slot}
-use Rattle.guest_words.specs.declared.inst.Inst.{Inst}
 use Rattle.guest_words.specs.declared.point.Point.{Point}
 use Rattle.guest_words.specs.declared.point.PointRef.{PointRef}
 use Rattle.guest_words.specs.Harts.{is_ready}
@@ -14,7 +14,6 @@ use Rattle.guest_words.specs.State.{State}
 use Rattle.edge_ports.specs.Seen.{Seen}
 use Rattle.hart_slots.specs.Rejoined.{hart_of}
 use Rattle.undo_log.specs.Noted.{Noted}
-use Rattle.run_history.specs.declared.entry.Entry.{Entry}
 use Rattle.run_history.specs.Quiet.{are_quiet}
 use Rattle.run_history.proofs.Ands.{and_left, and_right}
 use Rattle.run_history.proofs.Staying.{state_after_stays}
@@ -28,6 +27,10 @@ use Rattle.machine_core.specs.Inner.{Holds, Inner}
 use Rattle.machine_core.specs.Turns.{CanTurn}
 use Rattle.machine_core.proofs.Holding.{run_so_far}
 use Rattle.machine_core.proofs.Turning.{calm}
+
+pub ok_map : {A E : Type 0} (r : Result A E) (P Q : A → Type 0) → ((x : A) → P x → Q x) → IfOk r P → IfOk r Q
+ok_map (Ok x) P Q f p = f x p
+ok_map (Err e) P Q f p = p
 
 -- in a quiet state a hart has no frame
 no_frames : (slots : List Slot) (h : ℕ) (hart : Hart) → are_quiet slots ≡ true → option_map hart_of (slice_get slots h) ≡ Some hart → slice_get slots h ≡ Some (slot_of hart)
@@ -55,22 +58,19 @@ module _ (text : List Stretch) (ps qs : List Point) (fewer : ArrivesNoMore ps qs
 
       by : (o : Option PointRef) → arrival_of ps 0 hart ≡ o → unless_arrived o acts ≡ Some to → unless_arrived (arrival_of qs 0 hart) acts ≡ Some to
       by None none goes = ap (λ o. unless_arrived o acts) (fewer hart none) ∙ goes
-      by (Some point) some goes = cc
+      by (Some point) some goes = absurd (cc)
 
   -- so register acts are the same by both
   registers_kept : (base to : Hart) (n : ℕ) → registers text ps base n ≡ Some to → registers text qs base n ≡ Some to
   unfolding registers
   registers_kept base to zero is = is
-  registers_kept base to (suc n) is = by (registers text ps base n) refl is
+  registers_kept base to (suc n) is = by (registers text ps base n) (λ mid so_far. registers_kept base mid n so_far) is
     where
-      by : (o : Option Hart) → registers text ps base n ≡ o → then_next text ps o ≡ Some to → then_next text qs (registers text qs base n) ≡ Some to
-      by None none goes = cc
-      by (Some mid) some goes = ap (then_next text qs) (registers_kept base mid n some) ∙ next_kept mid to goes
+      by : (o : Option Hart) → ((mid : Hart) → o ≡ Some mid → registers text qs base n ≡ Some mid) → then_next text ps o ≡ Some to → then_next text qs (registers text qs base n) ≡ Some to
+      by None before goes = absurd (cc)
+      by (Some mid) before goes = ap (then_next text qs) (before mid refl) ∙ next_kept mid to goes
 
 module _ (start : State) (told : Seen) (w : Inner) (p : Noted) (k : Holds start told w p) where
-  so_far : List Entry
-  so_far = flat w.hart w.nest
-
   -- the number of harts is that of the start
   pub slots_stay : length w.live.state.slots ≡ length start.slots
   slots_stay = ap (λ (s : State). length s.slots) (sym (run_so_far start told w p k).1) ∙ (state_after_stays start (flat w.hart w.nest)).slots

@@ -1,5 +1,5 @@
 -- What holds of each machine with no call open, and of its start.
-use Rattle.std.proofs.Common.{◌≡◌, ℕ, ◌≤◌, List, [], ◌++◌, length, refl, ap, sym, ◌∙◌, subst, arith}
+use Rattle.std.proofs.Common.{◌≡◌, ℕ, ◌≤◌, List, [], ◌++◌, length, ap, sym, ◌∙◌, subst, arith}
 use Rattle.guest_words.specs.declared.limits.TheConstants.{BUDGET}
 use Rattle.guest_words.specs.declared.image.Image.{Image}
 use Rattle.guest_words.specs.declared.point.Point.{Point}

@@ -1,4 +1,4 @@
-use Rattle.std.proofs.Common.{◌≡◌, ◌<◌, ◌++◌, Bool, false, [], length, Ok, Err, OnOk, is_err, ap, sym, ◌∙◌, subst}
+use Rattle.std.proofs.Common.{◌≡◌, ◌<◌, ◌++◌, false, length, Ok, Err, OnOk, is_err, ap, sym, ◌∙◌, subst}
 use Rattle.std.specs.declared.result.Result.{Result}
 use Rattle.edge_ports.specs.Seen.{seen as told}
 use Rattle.open_calls.specs.Nest.{flat, flat_from, lowest}

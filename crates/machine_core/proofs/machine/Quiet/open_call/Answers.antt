@@ -1,6 +1,5 @@
-use Rattle.std.proofs.Common.{◌≡◌, Some, OnOk, ap, sym, ◌∙◌, subst}
+use Rattle.std.proofs.Common.{◌≡◌, OnOk, ap, ◌∙◌, subst}
 use Rattle.edge_ports.specs.Seen.{seen as told}
-use Rattle.machine_core.specs.declared.stepped.Stepped.TheVariants.{Arrived}
 use Rattle.machine_core.specs.Inner.{Inner, machine_in}
 use Rattle.machine_core.specs.Turns.{Begun}
 use Rattle.machine_core.proofs.Begins.{has_begun}
