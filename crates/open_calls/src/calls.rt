@@ -167,6 +167,8 @@ impl Calls {
         }
     }
 
+    // Apart, so that the test for room is all that most steps pay.
+    #[inline(never)]
     fn refill(&mut self, room: Room) -> Result<(), MemoryWant>
         ensures nest { self.new.nest ≡ self.old.nest }
         ensures hart { self.new.hart ≡ self.old.hart }
@@ -192,6 +194,7 @@ impl Calls {
     }
 
     /// A call of a point opens.
+    #[inline(always)]
     pub fn open(&mut self, point: PointRef, kept: Checkpoint, part: Part)
         requires acts { 0 < self.old.acts }
         requires few { length self.old.nest.outers < FRAMES }
