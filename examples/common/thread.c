@@ -4,9 +4,10 @@
 
 enum { WAIT = 0, WAKE = 1, ALL = 0x7fffffff, WANT_OF_MEMORY = -12 };
 
-/* VM, FS, FILES, SIGHAND, THREAD and SYSVSEM make a thread of Linux's. With PARENT_SETTID and
-   CHILD_CLEARTID its tid stands at a place, and becomes 0 there when the hart is gone. */
-enum { THREAD_FLAGS = 0x350f00 };
+/* VM, FS, FILES, SIGHAND, THREAD and SYSVSEM make a thread of Linux's, and SETTLS sets its tp. With
+   PARENT_SETTID and CHILD_CLEARTID its tid stands at a place, and becomes 0 there when the hart is
+   gone. */
+enum { THREAD_FLAGS = 0x3d0f00 };
 
 enum { STACK_SIZE = 16 * PAGE_SIZE };
 
@@ -14,7 +15,13 @@ enum { STACK_SIZE = 16 * PAGE_SIZE };
 struct first { void *argument; void (*body)(void *); };
 
 /* In clone.S. */
-long clone(long flags, struct first *stack, int *tid, long tls, int *clear);
+long clone(long flags, struct first *stack, int *tid, char *own, int *clear);
+
+/* Without a C library a thread has none. */
+__attribute__((weak)) char *put_own_variables(char *end)
+{
+    return end;
+}
 
 long start(struct thread *thread, void (*body)(void *), void *argument)
 {
@@ -23,10 +30,11 @@ long start(struct thread *thread, void (*body)(void *), void *argument)
         return WANT_OF_MEMORY;
     /* without its lowest page: a stack that overflows has to meet a place where nothing is */
     unmap(thread->stack, PAGE_SIZE);
-    struct first *first = (struct first *)((char *)thread->stack + STACK_SIZE) - 1;
+    char *own = put_own_variables((char *)thread->stack + STACK_SIZE);
+    struct first *first = (struct first *)own - 1;
     first->argument = argument;
     first->body = body;
-    long tid = clone(THREAD_FLAGS, first, &thread->tid, 0, &thread->tid);
+    long tid = clone(THREAD_FLAGS, first, &thread->tid, own, &thread->tid);
     if (tid < 0)
         unmap(thread->stack, STACK_SIZE);
     return tid < 0 ? tid : 0;
@@ -53,11 +61,16 @@ void join(struct thread *thread)
 /* A lock is free, held, or held while others may sleep at it. */
 enum { FREE, HELD, AWAITED };
 
-void take(struct lock *lock)
+int try_take(struct lock *lock)
 {
     int expected = FREE;
-    if (__atomic_compare_exchange_n(&lock->state, &expected, HELD, 0, __ATOMIC_ACQUIRE,
-                                    __ATOMIC_RELAXED))
+    return __atomic_compare_exchange_n(&lock->state, &expected, HELD, 0, __ATOMIC_ACQUIRE,
+                                       __ATOMIC_RELAXED);
+}
+
+void take(struct lock *lock)
+{
+    if (try_take(lock))
         return;
     while (__atomic_exchange_n(&lock->state, AWAITED, __ATOMIC_ACQUIRE) != FREE)
         sleep_at(&lock->state, AWAITED);
