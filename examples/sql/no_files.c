@@ -1,5 +1,5 @@
-/* The system that SQLite asks for, with no files in it, no clock and no chance: enough for databases
-   in memory. */
+/* The system that SQLite asks for, with no files in it, no clock and no chance: enough for
+   databases in memory. */
 #include <string.h>
 #include "build/amalgamation/sqlite3.h"
 

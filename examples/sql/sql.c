@@ -1,11 +1,11 @@
 /* SQLite over a database in memory. It runs one SQL statement a line and prints the rows that it
    gives, with | between their values.
 
-   in_euros(SUM, CURRENCY) is a function of ours that statements may call. It forgets that a currency
-   may be unknown, and reads at a null pointer then. That may be in the middle of an UPDATE in an
-   open transaction, when some rows are changed already. Under a rescue point at run such a statement
-   is answered with an error. What it had changed is taken back, and the transaction is as open as it
-   was. */
+   in_euros(SUM, CURRENCY) is a function of ours that statements may call. It forgets that a
+   currency may be unknown, and reads at a null pointer then. That may be in the middle of an UPDATE
+   in an open transaction, when some rows are changed already. Under a rescue point at run such a
+   statement is answered with an error. What it had changed is taken back, and the transaction is as
+   open as it was. */
 #include <stdio.h>
 #include <string.h>
 #include "build/amalgamation/sqlite3.h"
