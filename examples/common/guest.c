@@ -11,25 +11,13 @@ long write_some(long descriptor, const void *place, long size)
     return call(CALL_WRITE, descriptor, (long)place, size);
 }
 
-static long input = INPUT, output = OUTPUT;
-
-int has_port(long descriptor)
-{
-    return read_some(descriptor, 0, 0) == 0;
-}
-
-void use_port(long descriptor)
-{
-    input = output = descriptor;
-}
-
 int next_byte(void)
 {
     static unsigned char bytes[4096];
     static long taken, held;
     if (taken == held) {
         taken = 0;
-        held = read_some(input, bytes, sizeof bytes);
+        held = read_some(INPUT, bytes, sizeof bytes);
         if (held <= 0) {
             held = 0;
             return -1;
@@ -68,7 +56,7 @@ void add_number(struct line *line, long number)
 void put_line(struct line *line)
 {
     add_byte(line, '\n');
-    write_some(output, line->bytes, line->length);
+    write_some(OUTPUT, line->bytes, line->length);
     line->length = 0;
 }
 

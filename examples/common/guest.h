@@ -8,14 +8,6 @@ enum { INPUT = 0, OUTPUT = 1, ERRORS = 2 };
 long read_some(long descriptor, void *place, long size);
 long write_some(long descriptor, const void *place, long size);
 
-/* The first port of the command line is 3, the next one 4. Answers 0 for one that isn't there. */
-enum { FIRST_PORT = 3 };
-int has_port(long descriptor);
-
-/* From now on next_byte reads from this port and put_line writes to it, in place of standard input
-   and output. */
-void use_port(long descriptor);
-
 /* The next byte of the input, or -1 where it has ended or can't be read. */
 int next_byte(void);
 

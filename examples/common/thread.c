@@ -9,7 +9,7 @@ enum { WAIT = 0, WAKE = 1, ALL = 0x7fffffff, WANT_OF_MEMORY = -12 };
    gone. */
 enum { THREAD_FLAGS = 0x3d0f00 };
 
-enum { STACK_SIZE = 16 * PAGE_SIZE };
+enum { STACK_SIZE = 16 * PAGE_SIZE, NO_RIGHTS = 0, PRIVATE_AND_ANONYMOUS = 0x22 };
 
 /* The first bytes that a new hart takes from its stack; clone.S knows their order. */
 struct first { void *argument; void (*body)(void *); };
@@ -23,13 +23,28 @@ __attribute__((weak)) char *put_own_variables(char *end)
     return end;
 }
 
+/* A page without rights at this place, where none is. mmap gives the lowest page that is free: those
+   below are held until the place's turn has come. */
+static void put_guard(char *place)
+{
+    char *page = (char *)call_of_six(CALL_MMAP, (long)place, PAGE_SIZE, NO_RIGHTS,
+                                     PRIVATE_AND_ANONYMOUS, -1, 0);
+    if ((long)page < 0)
+        return;
+    if (page < place)
+        put_guard(place);
+    if (page != place)
+        unmap(page, PAGE_SIZE);
+}
+
 long start(struct thread *thread, void (*body)(void *), void *argument)
 {
     thread->stack = map(STACK_SIZE);
     if (!thread->stack)
         return WANT_OF_MEMORY;
-    /* without its lowest page: a stack that overflows has to meet a place where nothing is */
+    /* the lowest page can't be used: a stack that overflows is a fault */
     unmap(thread->stack, PAGE_SIZE);
+    put_guard(thread->stack);
     char *own = put_own_variables((char *)thread->stack + STACK_SIZE);
     struct first *first = (struct first *)own - 1;
     first->argument = argument;

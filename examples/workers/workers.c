@@ -13,11 +13,13 @@
    is a rescue point: a request that faults is answered with an error, and what it wrote is taken
    back, while the other threads' work stays. letters is a rescue point in it: a number that has no
    word is left out, and the request goes on. */
-#include "../common/guest.h"
+#include "../common/port.h"
 #include "../common/text.h"
 #include "../common/thread.h"
 
 enum { THREADS = 4, PLACES = 3, UNKNOWN = -22 };
+
+static struct channel channel;          /* main reads from it, and all write to it */
 
 struct request { long number, length; char line[40]; };
 
@@ -27,6 +29,14 @@ static long added, taken;
 static int is_complete;                 /* no more will be added */
 static struct lock lock;
 static struct condition changed;
+
+/* 0 behind the last one. */
+static int receive_request(struct request *request)
+{
+    request->length = receive_line(&channel, request->line, sizeof request->line);
+    request->number++;
+    return request->length >= 0;
+}
 
 static void add_request(const struct request *request)
 {
@@ -162,29 +172,26 @@ static void answer_requests(void *unused)
         add_number(&line, request.number);
         add_text(&line, answer < 0 ? ": error " : ": ");
         add_number(&line, answer < 0 ? -answer : answer);
-        put_line(&line);
+        send_line(&channel, &line);
     }
 }
 
 int main(void)
 {
     struct thread threads[THREADS];
-    struct request request = { .number = 1 };
+    struct request request = { .number = 0 };
     struct line line = { .length = 0 };
-    if (has_port(FIRST_PORT))
-        use_port(FIRST_PORT);
+    open_channel(&channel, FIRST_PORT);
     for (int i = 0; i < THREADS; i++)
         if (start(&threads[i], answer_requests, 0) < 0)
             return 1;
-    while ((request.length = read_line(request.line, sizeof request.line)) >= 0) {
+    while (receive_request(&request))
         add_request(&request);
-        request.number++;
-    }
     complete();
     for (int i = 0; i < THREADS; i++)
         join(&threads[i]);
     add_text(&line, "answered ");
     add_number(&line, answered);
-    put_line(&line);
+    send_line(&channel, &line);
     return 0;
 }
