@@ -10,12 +10,18 @@ _start:
     .option norelax
     lla gp, __global_pointer$
     .option pop
-    lla tp, __tls_base          # this hart's own variables, errno among them
     # Other systems than rescue may leave bytes of the file behind the variables that have values.
     lla a0, __bss_start
     li a1, 0
     lla a2, __bss_size
     call memset
+    # This hart's own variables, errno among them, lie at the end of its stack.
+    mv a0, sp
+    lla t0, __tls_size
+    sub sp, sp, t0
+    andi sp, sp, -16
+    call put_own_variables
+    mv tp, a0
     call __libc_init_array
     call main
     call exit                   # with what main returned
