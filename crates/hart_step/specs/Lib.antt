@@ -13,3 +13,4 @@ pub mod Inside
 pub mod DeviceAnswers
 pub mod Legs
 pub mod SlotActs
+pub mod Stretches

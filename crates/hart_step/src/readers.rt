@@ -9,6 +9,7 @@ ghost use Rattle.guest_words.specs.State.{frames_at};
 ghost use Rattle.hart_slots.specs.Rejoined.{frames_of, hart_of};
 ghost use Rattle.run_history.specs.Legal.{is_ready_at};
 ghost use Rattle.hart_step.specs.Live.{space_of};
+ghost use Rattle.hart_step.specs.Stretches.{steps_left};
 
 use crate::engine::Engine;
 use futex_table::Queue;
@@ -97,6 +98,14 @@ impl Engine {
         ensures most { self.now.state.budget ≤ BUDGET }
     {
         self.budget
+    }
+
+    /// How many steps may still be made; 0 where the records have passed their limit of bytes.
+    pub fn steps_left(&self) -> u64
+        requires not_yet { ⊥ }
+        ensures value { result ≡ steps_left self.now.state }
+    {
+        unreachable!()
     }
 
     /// The number of ports.

@@ -2,9 +2,14 @@ ghost use Rattle.std.specs.Prelude.{◌≡◌, ◌<◌, ◌≤◌, true, false, 
 ghost use Rattle.guest_words.specs.Effects.{class_of};
 ghost use Rattle.guest_words.specs.Instructions.{NamesRegisters};
 ghost use Rattle.hart_step.specs.InPlace.{HasZero};
+ghost use Rattle.guest_words.specs.declared.hart.Hart.{Hart};
+ghost use Rattle.run_history.specs.After.{ran};
+ghost use Rattle.run_history.specs.Legal.{can_run};
 ghost use Rattle.hart_step.specs.Registers.{after_class, register_next, registers};
+ghost use Rattle.hart_step.specs.Stretches.{IsStretch};
 
 use crate::did::Did;
+use crate::engine::Engine;
 use crate::look::arrival;
 use crate::register_rows::{branch, jump, register};
 use crate::registers::{go_past, reg};
@@ -75,4 +80,19 @@ fn carry_out(hart: &mut Hart, inst: &Inst) -> bool
         _ => Did::Called,
     };
     matches!(did, Did::Went)
+}
+
+impl Engine {
+    /// Register acts of a ready hart that were made beside the run become acts of it: the hart after
+    /// them stands in its slot, and their steps are counted. Makes no act again, and takes no memory.
+    pub fn stretch(&mut self, hart: u8, after: Hart, count: u32)
+        requires not_yet { ⊥ }
+        requires some { 1 ≤ count }
+        requires stretch { (base : Hart) × IsStretch self.old.state hart base after count }
+        ensures state { self.new.state ≡ ran self.old.state hart count }
+        ensures goes { can_run self.old.state hart count ≡ true }
+        ensures spare { self.new.spare ≡ self.old.spare }
+    {
+        unreachable!()
+    }
 }

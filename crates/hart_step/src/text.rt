@@ -7,6 +7,7 @@ ghost use Rattle.guest_words.specs.Instructions.{NamesRegisters};
 ghost use Rattle.guest_words.specs.Start.{memory_of};
 ghost use Rattle.hart_step.specs.Registers.{inst_in, inst_of, is_in, HasLoad, IsTextOf, Tells, TellsLoad};
 
+use crate::engine::Engine;
 use crate::look::look;
 use guest_memory::Memory;
 use guest_words::limits::PAGE;
@@ -174,5 +175,16 @@ impl Text {
             .find(|words| words.holds(pc))
             .map(|words| words.inst_at(pc))
             .unwrap_or(None)
+    }
+}
+
+impl Engine {
+    /// The instructions in the executable pages of a running machine: what can be fetched at each
+    /// address.
+    pub fn text(&self, alloc: Global) -> Result<Text, MemoryWant>
+        requires not_yet { ⊥ }
+        ensures ok { IfOk result (λ text. IsTextOf text self.now.state.memory) }
+    {
+        unreachable!()
     }
 }

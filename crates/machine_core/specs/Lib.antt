@@ -1,3 +1,6 @@
+pub mod Appends
+pub mod Beginnings
+pub mod Commits
 pub mod Inner
 pub mod Kept
 pub mod Machine

@@ -1,7 +1,8 @@
 //! Steps of a machine with calls open.
 ghost use Rattle.std.specs.Prelude.{◌≡◌, ◌<◌, length};
 ghost use Rattle.guest_words.specs.State.{frames_at};
-ghost use Rattle.open_calls.specs.Nest.{notes_in};
+ghost use Rattle.open_calls.specs.Nest.{lowest, notes_in};
+ghost use Rattle.machine_core.specs.Appends.{Appends, StaysBehind};
 ghost use Rattle.machine_core.specs.Machine.{whole, GoesOn};
 ghost use Rattle.machine_core.specs.Nearer.{GoesNearer};
 ghost use Rattle.machine_core.specs.OpenSteps.{abandoned_of, GoesTo};
@@ -17,6 +18,7 @@ impl<K: Origin, S: Source, T: Sink, P: Port> Active<K, S, T, P> {
     pub fn step(self) -> Next<K, S, T, P>
         ensures goes { GoesTo K.state self result }
         ensures nearer { GoesNearer self result }
+        ensures behind { StaysBehind self result }
     {
         let Active { mut core } = self;
         let parts: &mut Core<K, S, T, P> = core.as_mut();
@@ -33,6 +35,7 @@ impl<K: Origin, S: Source, T: Sink, P: Port> Active<K, S, T, P> {
     /// Lets the run stand as it is, for good.
     pub fn abandon(self) -> Quiet<K, S, T, P>
         ensures value { result ≡ abandoned_of (whole self) }
+        ensures appends { Appends (lowest self.nest) result.history }
     {
         let Active { mut core } = self;
         core.as_mut().inner.abandon();

@@ -3,10 +3,13 @@
 #![tactic(auto)]
 
 mod active;
+mod began;
 mod begin;
+mod commit;
 mod ending;
 mod enter;
 mod failing;
+mod gated;
 mod held;
 mod inner;
 mod limits;
@@ -17,9 +20,12 @@ mod readers;
 mod room;
 mod serve;
 mod stepped;
+mod stretches;
 mod turns;
 mod under;
 
+pub use began::Began;
+pub use commit::Commit;
 pub use limits::{Limits, Mode};
 pub use machine::{Active, Begin, Next, Quiet};
 pub use origin::Origin;

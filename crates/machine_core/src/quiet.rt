@@ -1,5 +1,5 @@
 //! Steps of a machine with no call open.
-ghost use Rattle.std.specs.Prelude.{◌≡◌, ◌≤◌, ◌<◌, [], false, length, None, Some, IfErr, IfOk, OnErr};
+ghost use Rattle.std.specs.Prelude.{◌≡◌, ◌≤◌, ◌<◌, ⊥, [], false, length, None, Some, IfErr, IfOk, OnErr};
 ghost use Rattle.guest_words.specs.declared.limits.TheConstants.{BUDGET, HARTS};
 ghost use Rattle.guest_words.specs.Image.{IsLoadList};
 ghost use Rattle.guest_words.specs.Start.{start_of};
@@ -9,6 +9,8 @@ ghost use Rattle.run_history.specs.After.{state_after};
 ghost use Rattle.run_history.specs.Ahead.{ahead};
 ghost use Rattle.run_history.specs.Counts.{records_of_all};
 ghost use Rattle.run_history.specs.Run.{IsRun};
+ghost use Rattle.machine_core.specs.Appends.{Appends};
+ghost use Rattle.machine_core.specs.Beginnings.{beginning};
 ghost use Rattle.machine_core.specs.Machine.{AllOpen};
 ghost use Rattle.machine_core.specs.Nearer.{BeginsNearer};
 ghost use Rattle.machine_core.specs.OpenSteps.{abandoned_of, Begins};
@@ -23,6 +25,7 @@ use edge_ports::{Devices, Port, Sink, Source};
 use guest_words::{Image, MemoryWant, PointRef, Points};
 use run_history::History;
 use std::alloc::Global;
+use stop_gate::AloneTurning;
 
 impl<K: Origin, S: Source, T: Sink, P: Port> Quiet<K, S, T, P> {
     /// A machine at its start. `harts` is 1 to 64, and `budget` is 1 to 20,000,000 steps.
@@ -42,6 +45,7 @@ impl<K: Origin, S: Source, T: Sink, P: Port> Quiet<K, S, T, P> {
         requires state { K.state ≡ start_of image.now points.now limits.harts
             (length devices.ports.items) limits.budget }
         requires devices { K.devices ≡ told S.end T.end P.end devices }
+        requires mode { K.mode ≡ limits.mode }
         ensures ok { IfOk result (λ machine. machine ≡ record {
           history = [];
           state = K.state;
@@ -56,7 +60,7 @@ impl<K: Origin, S: Source, T: Sink, P: Port> Quiet<K, S, T, P> {
         if devices.ready().is_err() {
             return Err(devices);
         }
-        let Limits { harts, budget } = limits;
+        let Limits { harts, budget, .. } = limits;
         let ports = devices.ports.len() as u64;
         let inner = match Inner::start(alloc, image, points, harts, ports, budget) {
             Ok(inner) => inner,
@@ -85,6 +89,7 @@ impl<K: Origin, S: Source, T: Sink, P: Port> Quiet<K, S, T, P> {
         ensures steps { IfOk result (λ stepped. Steps hart quantum self.old stepped self.new) }
         ensures nearer { result ≡ Ok Stepped.Moved
             → ahead self.new.state hart < ahead self.old.state hart }
+        ensures appends { Appends self.old.history self.new.history }
         ensures err { OnErr result (self.new ≡ self.old) }
     {
         let core: &mut Core<K, S, T, P> = self.core.as_mut();
@@ -109,6 +114,23 @@ impl<K: Origin, S: Source, T: Sink, P: Port> Quiet<K, S, T, P> {
             Ok(()) => Begin::Active(Active { core }),
             Err(_) => Begin::Memory(Quiet { core }),
         }
+    }
+
+    /// The same in a run by threads, for the one whose pass is alone: no other has the machine, and
+    /// none takes it before this pass has given it back.
+    pub fn begin(self, alone: &AloneTurning<Quiet<K, S, T, P>>, hart: u8) -> Begin<K, S, T, P>
+        requires not_yet { ⊥ }
+        requires shared { K.mode ≡ Mode.Shared }
+        requires alone { alone.now.view.origin ≡ beginning K.state K.devices K.mode }
+        requires going { self.state.ending ≡ None }
+        requires kept { self.abandoned ≡ false }
+        requires arrived { HasArrived (stepped_of self.state hart) }
+        ensures begins { (point : PointRef)
+            → stepped_of self.state hart ≡ Some (Stepped.Arrived point)
+            → Begins hart point self result }
+        ensures nearer { BeginsNearer self.state hart result }
+    {
+        unreachable!()
     }
 
     /// Lets the run stand as it is, for good.
