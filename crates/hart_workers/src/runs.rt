@@ -1,0 +1,120 @@
+//! All workers of a machine.
+ghost use Rattle.std.specs.Prelude.{◌≡◌, ◌+◌, ◌<◌, ◌≤◌, [], IsTrue, None, length, All, vec_len, vec_capacity};
+ghost use Rattle.std.specs.Thread.{IsSend, IsSync};
+ghost use Rattle.hart_step.specs.Registers.{IsTextOf};
+ghost use Rattle.machine_core.specs.Beginnings.{is_over};
+ghost use Rattle.stop_gate.specs.Passes.{IsNewOf};
+ghost use Rattle.hart_workers.specs.Workers.{CanWork, IsWaiting, HasSeenOver};
+
+use crate::settle::take_out;
+use crate::steps::give_up;
+use crate::worker::work;
+use edge_ports::{Port, Sink, Source};
+use guest_words::Points;
+use hart_step::Text;
+use machine_core::{Mode, Origin, Quiet};
+use std::alloc::Global;
+use std::sync::Wait;
+use std::thread::{Threads, join};
+use stop_gate::{Door, Gate, Out};
+
+/// How many ordinary acts one step under the turn may make.
+const QUANTUM: u32 = 64;
+
+/// A worker for each place, of the harts from `first` on, side by side. One of the passes comes
+/// back.
+#[cycle(parts)]
+fn run_part<
+    R: Threads + Wait + Sync,
+    K: Origin + Send + Sync,
+    S: Source + Send,
+    T: Sink + Send,
+    P: Port + Send,
+    D: Door,
+>(
+    rt: &R,
+    gate: &Gate<Quiet<K, S, T, P>>,
+    places: &mut [Option<Out<Quiet<K, S, T, P>>>],
+    text: &Text,
+    points: &Points,
+    first: u8,
+    door: &D,
+) -> Out<Quiet<K, S, T, P>>
+    requires shared { K.mode ≡ Mode.Shared }
+    requires harts { CanWork first (length places.old) K.state.slots }
+    requires each { All (IsWaiting gate.now) places.old }
+    requires text { IsTextOf text.now K.state.memory }
+    requires points { points.now ≡ K.state.points }
+    ensures over { HasSeenOver gate.now result }
+{
+    if places.len() == 1 {
+        let Some(pass) = places[0].take() else {
+            unreachable!()
+        };
+        return work(rt, gate, pass, text, points, first, door, QUANTUM);
+    }
+    let half = places.len() / 2;
+    let next = first + half as u8;
+    let (low, high) = places.split_at_mut(half);
+    let (pass, _) = join(
+        rt,
+        || -> Out<Quiet<K, S, T, P>>
+            requires { IsSync R.row × IsSync D.row × IsSync K.row × IsSend K.row × IsSend S.row × IsSend T.row × IsSend P.row × (K.mode ≡ Mode.Shared) × CanWork first (length low.now) K.state.slots × All (IsWaiting gate.now) low.now × IsTextOf text.now K.state.memory × (points.now ≡ K.state.points) }
+            ensures { HasSeenOver gate.entry.now result }
+        { run_part(rt, gate, low, text, points, first, door) },
+        || -> Out<Quiet<K, S, T, P>>
+            requires { IsSync R.row × IsSync D.row × IsSync K.row × IsSend K.row × IsSend S.row × IsSend T.row × IsSend P.row × (K.mode ≡ Mode.Shared) × CanWork next (length high.now) K.state.slots × All (IsWaiting gate.now) high.now × IsTextOf text.now K.state.memory × (points.now ≡ K.state.points) }
+            ensures { HasSeenOver gate.entry.now result }
+        { run_part(rt, gate, high, text, points, next, door) },
+    );
+    pass
+}
+
+/// The passes in places of their own, from which each worker takes its.
+fn placed<K: Origin, S: Source, T: Sink, P: Port>(
+    gate: &Gate<Quiet<K, S, T, P>>,
+    passes: Vec<Out<Quiet<K, S, T, P>>>,
+    places: Vec<Option<Out<Quiet<K, S, T, P>>>>,
+) -> Vec<Option<Out<Quiet<K, S, T, P>>>>
+    requires each { All (λ p. IsNewOf gate.now 0 p) passes.items }
+    requires room { (places.items ≡ []) × (vec_len passes ≤ vec_capacity places) }
+    ensures counts { vec_len result ≡ vec_len passes }
+    ensures each { All (IsWaiting gate.now) result.items }
+{
+    let (mut passes, mut places) = (passes, places);
+    while let Some(pass) = passes.pop() {
+        places.push_reserved(Some(pass));
+    }
+    places
+}
+
+/// Runs a machine by a worker for each of its harts, until it is over. Where memory is wanting
+/// before they start, it is abandoned.
+pub fn run_all<
+    R: Threads + Wait + Sync,
+    K: Origin + Send + Sync,
+    S: Source + Send,
+    T: Sink + Send,
+    P: Port + Send,
+    D: Door,
+>(rt: &R, alloc: Global, machine: Quiet<K, S, T, P>, door: &D) -> Quiet<K, S, T, P>
+    requires shared { K.mode ≡ Mode.Shared }
+    requires slots { 0 < length machine.state.slots }
+    requires going { machine.state.ending ≡ None }
+    ensures over { IsTrue (is_over result) }
+{
+    let harts = machine.harts() as u8;
+    let (Ok(text), Ok(points)) = (machine.text(), machine.points()) else {
+        return give_up(machine);
+    };
+    let Ok(places) = Vec::with_capacity(alloc, usize::from(harts)) else {
+        return give_up(machine);
+    };
+    let (gate, passes) = match Gate::new(alloc, machine, harts) {
+        Ok(made) => made,
+        Err(machine) => return give_up(machine),
+    };
+    let mut places = placed(&gate, passes, places);
+    let pass = run_part(rt, &gate, places.as_mut_slice(), &text, &points, 0, door);
+    take_out(rt, &gate, pass)
+}
