@@ -1,6 +1,6 @@
 //! Stretches of register acts, made outside the turn: what they begin from, and how they come into
 //! the history.
-ghost use Rattle.std.specs.Prelude.{◌≡◌, ◌<◌, ◌≤◌, Some, None, false, true, length, ⊥, IfOk};
+ghost use Rattle.std.specs.Prelude.{◌≡◌, ◌<◌, ◌≤◌, Some, None, false, true, length, IfOk};
 ghost use Rattle.guest_words.specs.Harts.{is_ready};
 ghost use Rattle.hart_step.specs.Registers.{IsTextOf};
 ghost use Rattle.machine_core.specs.Appends.{Appends};
