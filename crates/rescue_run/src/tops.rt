@@ -22,8 +22,8 @@ use std::sync::Wait;
 use std::thread::Threads;
 use stop_gate::Door;
 
-fn port_count<S, T, P>(devices: &Devices<S, T, P>) -> u64
-    ensures value { result ≡ length devices.now.ports.items }
+fn port_count<S: Source, T: Sink, P: Port>(devices: &Devices<S, T, P>) -> u64
+    ensures { result ≡ length (seen S.end T.end P.end devices.now).ports }
 {
     devices.ports.len() as u64
 }
