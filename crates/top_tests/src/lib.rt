@@ -14,6 +14,8 @@ mod harts;
 #[cfg(test)]
 mod image;
 #[cfg(test)]
+mod meeting;
+#[cfg(test)]
 mod nested;
 #[cfg(test)]
 mod other_commands;
@@ -29,3 +31,7 @@ mod refusals;
 mod replay;
 #[cfg(test)]
 mod rescues;
+#[cfg(test)]
+mod server;
+#[cfg(test)]
+mod threads;
