@@ -51,7 +51,7 @@ pub load_told : (load : LoadTask) (entries : List Entry) (points : List Point) (
     → IsLoadTo load entries points outcome × ReportsRun (load_summary load entries points) outcome old new
 load_told load entries points ending outcome old new run puts =
     let text = load_summary load entries points in
-    let t = told_of (start_of_run load.start 0) load.start.seed entries points text ending outcome old new run.runs puts in (
+    let t = told_of (start_of_run load.start 0) load.start.setup.schedule entries points text ending outcome old new run.runs puts in (
       record {
         runs = t.0;
         devices = run.devices;
@@ -75,12 +75,12 @@ out_given input devices entries given matches told =
 
 -- a load's run, from what the run of its start gives on its devices
 pub load_ran : (load : LoadTask) (before now : Seen) (count : ℕ) (entries : List Entry) (points : List Point) (a b : Option Ending)
-    → before ≡ load_devices load.input → count ≡ 0 → IsRunTo (start_of_run load.start count) load.start.seed entries points (outcome_of a)
+    → before ≡ load_devices load.input → count ≡ 0 → IsRunTo (start_of_run load.start count) load.start.setup.schedule entries points (outcome_of a)
     → DevicesMatch before now 0 (records_of_all entries) → (b ≡ a) ⊎ (b ≡ None) → IsSure entries (outcome_of b)
     → IsLoadTo load entries points (outcome_of b)
 load_ran load before now count entries points a b own none run matches ending sure = record {
-  runs = losing (start_of_run load.start 0) load.start.seed entries points a b ending
-      (subst (λ n. IsRunTo (start_of_run load.start n) load.start.seed entries points (outcome_of a)) none run);
+  runs = losing (start_of_run load.start 0) load.start.setup.schedule entries points a b ending
+      (subst (λ n. IsRunTo (start_of_run load.start n) load.start.setup.schedule entries points (outcome_of a)) none run);
   devices = now;
   matches = subst (λ (d : Seen). DevicesMatch d now 0 (records_of_all entries)) own matches;
   sure = sure;

@@ -1,6 +1,6 @@
 -- What is prepared for words, by what their reading, the number of the ports and the files give.
 use Rattle.std.proofs.Common.{◌≡◌, ◌⊎◌, inl, inr, ℕ, Bool, true, false, if◌then◌else◌, ◌==◌, List, [], ◌∷◌, ◌++◌, take, Option, Some, None, Result, Ok, Err, refl, ap, sym, ◌∙◌, subst, IfSome, IsTrue, ◌↔◌, is_some, slice_get, codes}
-use Rattle.std.specs.Prelude.{unwrap_or}
+use Rattle.std.specs.Prelude.{◌&&◌, not, unwrap_or, IfOk}
 use Rattle.std.specs.Str.{bytes_eq}
 use Rattle.std.proofs.lemmas.Bool.{both_ways}
 use Rattle.std.proofs.lemmas.Slice.Eq.{bytes_eq-Decides}
@@ -12,18 +12,24 @@ use Rattle.elf_symbols.specs.declared.symbol.Symbol.{Symbol}
 use Rattle.guest_words.specs.declared.elf_fault.ElfFault.{ElfFault}
 use Rattle.guest_words.specs.Image.{first_fault}
 use Rattle.edge_ports.specs.Shelves.{Shelved}
-use Rattle.machine_core.specs.declared.limits.Limits.{Limits}
-use Rattle.program_words.specs.Words.{command_of, first_word_fault, reading_of}
+use Rattle.clap.specs.Words.{Row}
+use Rattle.program_words.specs.Kinds.{kind_named}
+use Rattle.program_words.specs.Ports.{first_bad_port}
+use Rattle.program_words.specs.Words.{command_in, command_of, first_word_fault, is_taken, port_words, reading_of, reading_of_kind, rows_in, unless_bad_port}
 use Rattle.program_words.specs.declared.command.Command.{Command}
 use Rattle.program_words.specs.declared.command.Command.TheVariants as command
+use Rattle.program_words.specs.declared.command_kind.CommandKind.{CommandKind}
+use Rattle.program_words.specs.declared.command_kind.CommandKind.TheVariants as kind
 use Rattle.program_words.specs.declared.words_fault.WordsFault.{WordsFault}
 use Rattle.program_words.specs.declared.words_fault.WordsFault.TheVariants as words_fault
 use Rattle.rescue_run.specs.Outcomes.{of_words_fault}
 use Rattle.program_words.specs.declared.word_fault.WordFault.{WordFault}
-use Rattle.program_words.specs.declared.word_fault.WordFault.TheVariants.{Threads}
+use Rattle.program_words.specs.declared.word_fault.WordFault.TheVariants.{Line, Threads}
 use Rattle.rescue_run.specs.declared.files.Files.{Files}
+use Rattle.rescue_run.specs.declared.setup.Setup.{Setup}
 use Rattle.rescue_run.specs.declared.start.Loaded.{Loaded}
 use Rattle.rescue_run.specs.declared.task.Task.{Task}
+use Rattle.rescue_run.specs.declared.task.Task.TheVariants as task
 use Rattle.rescue_run.specs.declared.outcome.Outcome.{Outcome}
 use Rattle.rescue_run.specs.declared.outcome.Outcome.TheVariants.{PortCount, Words, Memory}
 use Rattle.rescue_run.specs.declared.outcome.Which.TheVariants as which
@@ -31,7 +37,8 @@ use Rattle.rescue_run.specs.Loading.{later_loads, points_load_if, Answers, Read}
 use Rattle.rescue_run.specs.Prepares.{AreAnswersFor, ListsFile, Prepares, PreparesCommand, PreparesCounted, StartsFiles}
 use Rattle.rescue_run.specs.Reads.{AreAnswers, IsAskedFor, IsOrMemory}
 use Rattle.rescue_run.specs.ReadsFiles.{ReadsFiles, ReadsSymbols}
-use Rattle.rescue_run.specs.Words.{files_of, loads_by, loads_by_files, loads_for, loads_read, needs_threads, ports_named, run_with, task_by, task_read, list_with}
+use Rattle.rescue_run.specs.Tasks.{runs_threads, CanStart}
+use Rattle.rescue_run.specs.Words.{files_of, lacks_threads, loads_by, loads_for, loads_read, needs_threads, ports_named, run_with, task_by, task_read, list_with}
 use Rattle.rescue_run.proofs.Shelving.{answer_among, follows_same, none_answered, no_answers, take_none}
 
 -- an answer that a function takes over
@@ -44,13 +51,13 @@ value_on : {A B : Type 0} (f : Result A Outcome → Result B Outcome) (r value :
 value_on f r value keeps (inl is) = inl (ap f is)
 value_on f r value keeps (inr memory) = inr (ap f memory ∙ keeps)
 
-pub starts_files : (f : Files) (limits : Limits) (seed : ℕ) (old new : Shelved) (r : Result Loaded Outcome) → ReadsFiles f old new r
-    → StartsFiles f limits seed old new (run_with limits seed r)
-starts_files f limits seed old new r reads = record {
+pub starts_files : (f : Files) (setup : Setup) (old new : Shelved) (r : Result Loaded Outcome) → ReadsFiles f old new r
+    → StartsFiles f setup old new (run_with setup r)
+starts_files f setup old new r reads = record {
   answers = reads.answers;
   answered = reads.answered;
-  asked = asked_on old.asked new.asked _ (λ memory. ap (run_with limits seed) memory) reads.asked;
-  value = value_on (run_with limits seed) r _ refl reads.value;
+  asked = asked_on old.asked new.asked _ (λ memory. ap (run_with setup) memory) reads.asked;
+  value = value_on (run_with setup) r _ refl reads.value;
 }
 
 -- the list of the symbols of a program
@@ -92,26 +99,26 @@ nothing_asked old = sym (append-nil old)
 no_words_answered : (words : List (List ℕ)) (s : Shelved) → AreAnswersFor words s s no_answers
 no_words_answered words s c f is of = none_answered s s f
 
-pub prepares_threads : (words : List (List ℕ)) (handed : ℕ) (s : Shelved) → needs_threads words ≡ true
-    → Prepares words handed s s (Err (Words Threads))
-prepares_threads words handed s threads = record {
+pub prepares_threads : (threads : Bool) (words : List (List ℕ)) (handed : ℕ) (s : Shelved) → lacks_threads threads words ≡ true
+    → Prepares threads words handed s s (Err (Words Threads))
+prepares_threads threads words handed s lacks = record {
   answers = no_answers;
   answered = no_words_answered words s;
-  asked = inl (subst (λ b. s.asked ≡ s.asked ++ (if b then [] else loads_read (command_of words) handed no_answers)) (sym threads) (nothing_asked s.asked));
-  value = inl (subst (λ b. Err (Words Threads) ≡ (if b then Err (Words Threads) else task_read (command_of words) handed no_answers)) (sym threads) refl);
+  asked = inl (subst (λ b. s.asked ≡ s.asked ++ (if b then [] else loads_read (command_of words) handed no_answers)) (sym lacks) (nothing_asked s.asked));
+  value = inl (subst (λ b. Err (Words Threads) ≡ (if b then Err (Words Threads) else task_read (command_of words) handed no_answers)) (sym lacks) refl);
 }
 
--- the words are read, on one thread
-prepares_read : (words : List (List ℕ)) (handed : ℕ) (old new : Shelved) (result : Result Task Outcome) (answers : Answers) (reading : Result Command WordFault)
-    → needs_threads words ≡ false → command_of words ≡ reading → AreAnswersFor words old new answers
+-- the words are read
+prepares_read : (threads : Bool) (words : List (List ℕ)) (handed : ℕ) (old new : Shelved) (result : Result Task Outcome) (answers : Answers)
+    (reading : Result Command WordFault) → lacks_threads threads words ≡ false → command_of words ≡ reading → AreAnswersFor words old new answers
     → IsAskedFor (result ≡ Err Memory) old.asked new.asked (loads_read reading handed answers)
-    → IsOrMemory result (task_read reading handed answers) → Prepares words handed old new result
-prepares_read words handed old new result answers reading alone is answered asked value = record {
+    → IsOrMemory result (task_read reading handed answers) → Prepares threads words handed old new result
+prepares_read threads words handed old new result answers reading has is answered asked value = record {
   answers = answers;
   answered = answered;
-  asked = subst (λ b. IsAskedFor (result ≡ Err Memory) old.asked new.asked (if b then [] else loads_read (command_of words) handed answers)) (sym alone)
+  asked = subst (λ b. IsAskedFor (result ≡ Err Memory) old.asked new.asked (if b then [] else loads_read (command_of words) handed answers)) (sym has)
       (subst (λ r. IsAskedFor (result ≡ Err Memory) old.asked new.asked (loads_read r handed answers)) (sym is) asked);
-  value = subst (λ b. IsOrMemory result (if b then Err (Words Threads) else task_read (command_of words) handed answers)) (sym alone)
+  value = subst (λ b. IsOrMemory result (if b then Err (Words Threads) else task_read (command_of words) handed answers)) (sym has)
       (subst (λ r. IsOrMemory result (task_read r handed answers)) (sym is) value);
 }
 
@@ -123,18 +130,18 @@ refused_reading (Err x) f fault is = ap (λ o. Err (unwrap_or o x)) is
 pub refused_command : (words : List (List ℕ)) (fault : WordFault) → first_word_fault words ≡ Some fault → command_of words ≡ Err fault
 refused_command words fault is = refused_reading (reading_of words) _ fault is
 
-pub prepares_refused : (words : List (List ℕ)) (handed : ℕ) (s : Shelved) (fault : WordFault) → needs_threads words ≡ false
-    → first_word_fault words ≡ Some fault → Prepares words handed s s (Err (Words fault))
-prepares_refused words handed s fault alone is =
-    prepares_read words handed s s (Err (Words fault)) no_answers (Err fault) alone (refused_command words fault is)
+pub prepares_refused : (threads : Bool) (words : List (List ℕ)) (handed : ℕ) (s : Shelved) (fault : WordFault) → lacks_threads threads words ≡ false
+    → first_word_fault words ≡ Some fault → Prepares threads words handed s s (Err (Words fault))
+prepares_refused threads words handed s fault has is =
+    prepares_read threads words handed s s (Err (Words fault)) no_answers (Err fault) has (refused_command words fault is)
     (no_words_answered words s) (inl (nothing_asked s.asked)) (inl refl)
 
 -- memory was wanting for the reading
-pub prepares_none : (words : List (List ℕ)) (handed : ℕ) (s : Shelved) → Prepares words handed s s (Err Memory)
-prepares_none words handed s = record {
+pub prepares_none : (threads : Bool) (words : List (List ℕ)) (handed : ℕ) (s : Shelved) → Prepares threads words handed s s (Err Memory)
+prepares_none threads words handed s = record {
   answers = no_answers;
   answered = no_words_answered words s;
-  asked = inr (refl, (0, nothing_asked s.asked ∙ ap (λ (xs : List Asked). s.asked ++ xs) (sym (take_none (loads_for words handed no_answers)))));
+  asked = inr (refl, (0, nothing_asked s.asked ∙ ap (λ (xs : List Asked). s.asked ++ xs) (sym (take_none (loads_for threads words handed no_answers)))));
   value = inr refl;
 }
 
@@ -142,13 +149,14 @@ abbrev CommandErr : WordsFault → WordsFault → Type 0
 CommandErr fault other = ◌≡◌ {A = Result Command WordsFault} (Err fault) (Err other)
 
 -- the words give no command
-pub prepares_fault : (words : List (List ℕ)) (handed : ℕ) (s : Shelved) (fault : WordsFault) (outcome : Outcome) → outcome ≡ of_words_fault fault
-    → needs_threads words ≡ false → ((f : WordFault) → CommandErr fault (words_fault.Words f) → first_word_fault words ≡ Some f)
-    → Prepares words handed s s (Err outcome)
-prepares_fault words handed s (words_fault.Words f) outcome is alone cause =
-    subst (λ o. Prepares words handed s s (Err o)) (sym is) (prepares_refused words handed s f alone (cause f refl))
-prepares_fault words handed s words_fault.Memory outcome is alone cause =
-    subst (λ o. Prepares words handed s s (Err o)) (sym is) (prepares_none words handed s)
+pub prepares_fault : (threads : Bool) (words : List (List ℕ)) (handed : ℕ) (s : Shelved) (fault : WordsFault) (outcome : Outcome)
+    → outcome ≡ of_words_fault fault → lacks_threads threads words ≡ false
+    → ((f : WordFault) → CommandErr fault (words_fault.Words f) → first_word_fault words ≡ Some f)
+    → Prepares threads words handed s s (Err outcome)
+prepares_fault threads words handed s (words_fault.Words f) outcome is has cause =
+    subst (λ o. Prepares threads words handed s s (Err o)) (sym is) (prepares_refused threads words handed s f has (cause f refl))
+prepares_fault threads words handed s words_fault.Memory outcome is has cause =
+    subst (λ o. Prepares threads words handed s s (Err o)) (sym is) (prepares_none threads words handed s)
 
 -- the command runs on threads just where its first word says so
 same_tests : (a b : Bool) → (a ≡ true → b ≡ true) → (b ≡ true → a ≡ true) → a ≡ b
@@ -173,16 +181,6 @@ prepares_load number s r value = record {
   answered = tt;
   asked = inl (nothing_asked s.asked);
   value = value;
-}
-
--- a command that no file is read for
-pub prepares_nothing : (c : Command) (s : Shelved) (outcome : Outcome) → files_of c ≡ None → task_by c no_answers ≡ Err outcome
-    → PreparesCommand c s s (Err outcome)
-prepares_nothing c s outcome none gives = record {
-  answers = no_answers;
-  answered = subst (λ o. IfSome o (λ f. AreAnswers s s f no_answers)) (sym none) tt;
-  asked = inl (subst (λ o. s.asked ≡ s.asked ++ loads_by_files o no_answers) (sym none) (nothing_asked s.asked));
-  value = inl (sym gives);
 }
 
 -- another number of ports is handed in than is named
@@ -218,10 +216,65 @@ given_files : (o : Option Files) (f : Files) (P : Files → Type 0) → IfSome o
 given_files o f P holds is = subst (λ x. IfSome x P) is holds
 
 -- the command is prepared
-pub prepares_command : (words : List (List ℕ)) (handed : ℕ) (old new : Shelved) (result : Result Task Outcome) (c : Command) → needs_threads words ≡ false
-    → command_of words ≡ Ok c → PreparesCounted c handed old new result → Prepares words handed old new result
-prepares_command words handed old new result c alone is p =
-    prepares_read words handed old new result p.answers (Ok c) alone is
+pub prepares_command : (threads : Bool) (words : List (List ℕ)) (handed : ℕ) (old new : Shelved) (result : Result Task Outcome) (c : Command)
+    → lacks_threads threads words ≡ false → command_of words ≡ Ok c → PreparesCounted c handed old new result
+    → Prepares threads words handed old new result
+prepares_command threads words handed old new result c has is p =
+    prepares_read threads words handed old new result p.answers (Ok c) has is
     (λ d f reads of. given_files (files_of d) f (λ x. AreAnswers old new x p.answers)
     (subst (λ k. IfSome (files_of k) (λ x. AreAnswers old new x p.answers)) (same_command (command_of words) c d is reads) p.answered) of)
     p.asked p.value
+
+-- a command that is read runs on threads only where its first word says so
+
+run_named : (a b c d : Bool)
+    → (if a then Some kind.Run else if b then Some kind.Alone else if c then Some kind.List else if d then Some kind.Load else None) ≡ Some kind.Run
+    → a ≡ true
+run_named true b c d is = refl
+run_named false true c d is = cc
+run_named false false true d is = cc
+run_named false false false true is = cc
+run_named false false false false is = cc
+
+run_rows : (k : CommandKind) (rows : List Row) → IsTrue (runs_threads (command_in k rows)) → k ≡ kind.Run
+run_rows kind.Run rows threads = refl
+run_rows kind.Alone rows threads = cc
+run_rows kind.List rows threads = cc
+run_rows kind.Load rows threads = cc
+
+abbrev command_by : Result (CommandKind × List Row) WordFault → Result Command WordFault
+command_by reading = result_map_both (λ r. command_in r.0 r.1) (λ fault. fault) reading
+
+run_taken : (k : CommandKind) (rows : List Row) (bad : Option ℕ) (taken : Bool) (c : Command)
+    → command_by (if taken then unless_bad_port (k, rows) bad else Err Line) ≡ Ok c → IsTrue (runs_threads c) → k ≡ kind.Run
+run_taken k rows None true c is threads =
+    let same : command_in k rows ≡ c = cc in run_rows k rows (subst (λ x. IsTrue (runs_threads x)) (sym same) threads)
+run_taken k rows (Some index) true c is threads = cc
+run_taken k rows bad false c is threads = cc
+
+run_kind : (o : Option CommandKind) (rest : List (List ℕ)) (c : Command) → command_by (reading_of_kind o rest) ≡ Ok c
+    → IsTrue (runs_threads c) → o ≡ Some kind.Run
+run_kind None rest c is threads = cc
+run_kind (Some k) rest c is threads =
+    ap Some (run_taken k (rows_in k rest) (first_bad_port (port_words (rows_in k rest))) (is_taken k rest) c is threads)
+
+run_read : (words : List (List ℕ)) (c : Command) → command_of words ≡ Ok c → IsTrue (runs_threads c) → IsTrue (needs_threads words)
+run_read [] c is threads = cc
+run_read (first ∷ rest) c is threads =
+    run_named (bytes_eq first (codes "run")) (bytes_eq first (codes "alone")) (bytes_eq first (codes "list")) (bytes_eq first (codes "load"))
+    (run_kind (kind_named first) rest c is threads)
+
+has_threads : (threads : Bool) (words : List (List ℕ)) → lacks_threads threads words ≡ false → IsTrue (needs_threads words) → IsTrue threads
+has_threads true words has needs = refl
+has_threads false words has needs = sym has ∙ needs
+
+start_on : (a b : Bool) (t : Task) → (IsTrue a → IsTrue b) → CanStart a t → CanStart b t
+start_on a b (task.Run start) on can = record { loads = can.loads; within = can.within; order = λ is. on (can.order is) }
+start_on a b (task.List symbols) on can = tt
+start_on a b (task.Load load) on can = can
+
+pub can_start : (threads : Bool) (words : List (List ℕ)) (c : Command) (r : Result Task Outcome) → lacks_threads threads words ≡ false
+    → command_of words ≡ Ok c → IfOk r (CanStart (runs_threads c)) → IfOk r (CanStart threads)
+can_start threads words c (Ok t) has is can =
+    start_on (runs_threads c) threads t (λ run. has_threads threads words has (run_read words c is run)) can
+can_start threads words c (Err outcome) has is can = tt

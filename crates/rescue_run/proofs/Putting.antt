@@ -8,6 +8,7 @@ use Rattle.run_history.specs.declared.entry.Entry.{Entry}
 use Rattle.run_history.specs.Run.{EndsOnce}
 use Rattle.rescue_run.specs.declared.outcome.Outcome.{Outcome}
 use Rattle.rescue_run.specs.declared.outcome.Outcome.TheVariants.{Words, PortCount, Shelf, TooLong, Elf, Symbols, Points, Report, Ended, Listed, Memory}
+use Rattle.rescue_run.specs.declared.setup.Schedule.{Schedule}
 use Rattle.rescue_run.specs.Puts.{PutsText, ReportsRun}
 use Rattle.rescue_run.specs.Runs.{outcome_of, IsRunTo}
 use Rattle.rescue_run.proofs.Coming.{with_outcome}
@@ -34,48 +35,48 @@ pub puts_by : (text other : Ending → List ℕ) (ending : Option Ending) (outco
 puts_by text other ending outcome old new is puts = subst (λ t. PutsText t ending outcome old new) is puts
 
 -- a run, and what the report sink was given for it
-abbrev pub IsToldOf : State → ℕ → List Entry → List Point → (Ending → List ℕ) → Outcome → End → End → Type 0
-IsToldOf start seed entries points text outcome old new =
-    IsRunTo start seed entries points outcome × ReportsRun text outcome old new
+abbrev pub IsToldOf : State → Schedule → List Entry → List Point → (Ending → List ℕ) → Outcome → End → End → Type 0
+IsToldOf start schedule entries points text outcome old new =
+    IsRunTo start schedule entries points outcome × ReportsRun text outcome old new
 
-told_ended : (start : State) (seed : ℕ) (entries : List Entry) (points : List Point) (text : Ending → List ℕ) (x : Ending) (outcome : Outcome)
-    (old new : End) → IsRunTo start seed entries points (Ended x) → PutsText text (Some x) outcome old new
-    → IsToldOf start seed entries points text outcome old new
-told_ended start seed entries points text x (Words fault) old new run puts = absurd puts
-told_ended start seed entries points text x (PortCount named handed) old new run puts = absurd puts
-told_ended start seed entries points text x (Shelf w) old new run puts = absurd puts
-told_ended start seed entries points text x (TooLong w size) old new run puts = absurd puts
-told_ended start seed entries points text x (Elf fault offset) old new run puts = absurd puts
-told_ended start seed entries points text x (Symbols fault offset) old new run puts = absurd puts
-told_ended start seed entries points text x (Points fault place) old new run puts = absurd puts
-told_ended start seed entries points text x (Report None) old new run puts = absurd puts
-told_ended start seed entries points text x (Report (Some y)) old new run puts =
-    (with_outcome start seed entries points (Ended x) (Report (Some y)) run (subst (λ z. EndsOnce entries z) (sym puts.0) run.explains), puts.1)
-told_ended start seed entries points text x (Ended y) old new run puts = (
-  with_outcome start seed entries points (Ended x) (Ended y) run (subst (λ z. EndsOnce entries z) (sym puts.0) run.explains),
+told_ended : (start : State) (schedule : Schedule) (entries : List Entry) (points : List Point) (text : Ending → List ℕ) (x : Ending) (outcome : Outcome)
+    (old new : End) → IsRunTo start schedule entries points (Ended x) → PutsText text (Some x) outcome old new
+    → IsToldOf start schedule entries points text outcome old new
+told_ended start schedule entries points text x (Words fault) old new run puts = absurd puts
+told_ended start schedule entries points text x (PortCount named handed) old new run puts = absurd puts
+told_ended start schedule entries points text x (Shelf w) old new run puts = absurd puts
+told_ended start schedule entries points text x (TooLong w size) old new run puts = absurd puts
+told_ended start schedule entries points text x (Elf fault offset) old new run puts = absurd puts
+told_ended start schedule entries points text x (Symbols fault offset) old new run puts = absurd puts
+told_ended start schedule entries points text x (Points fault place) old new run puts = absurd puts
+told_ended start schedule entries points text x (Report None) old new run puts = absurd puts
+told_ended start schedule entries points text x (Report (Some y)) old new run puts =
+    (with_outcome start schedule entries points (Ended x) (Report (Some y)) run (subst (λ z. EndsOnce entries z) (sym puts.0) run.explains), puts.1)
+told_ended start schedule entries points text x (Ended y) old new run puts = (
+  with_outcome start schedule entries points (Ended x) (Ended y) run (subst (λ z. EndsOnce entries z) (sym puts.0) run.explains),
   subst (λ z. Came old.given (text z) new.given) (sym puts.0) puts.1,
 )
-told_ended start seed entries points text x Listed old new run puts = absurd puts
-told_ended start seed entries points text x Memory old new run puts =
-    (with_outcome start seed entries points (Ended x) Memory run tt, puts)
+told_ended start schedule entries points text x Listed old new run puts = absurd puts
+told_ended start schedule entries points text x Memory old new run puts =
+    (with_outcome start schedule entries points (Ended x) Memory run tt, puts)
 
-told_none : (start : State) (seed : ℕ) (entries : List Entry) (points : List Point) (text : Ending → List ℕ) (outcome : Outcome)
-    (old new : End) → IsRunTo start seed entries points Memory → PutsText text None outcome old new
-    → IsToldOf start seed entries points text outcome old new
-told_none start seed entries points text (Words fault) old new run puts = absurd puts
-told_none start seed entries points text (PortCount named handed) old new run puts = absurd puts
-told_none start seed entries points text (Shelf w) old new run puts = absurd puts
-told_none start seed entries points text (TooLong w size) old new run puts = absurd puts
-told_none start seed entries points text (Elf fault offset) old new run puts = absurd puts
-told_none start seed entries points text (Symbols fault offset) old new run puts = absurd puts
-told_none start seed entries points text (Points fault place) old new run puts = absurd puts
-told_none start seed entries points text (Report ending) old new run puts = absurd puts
-told_none start seed entries points text (Ended y) old new run puts = absurd puts
-told_none start seed entries points text Listed old new run puts = absurd puts
-told_none start seed entries points text Memory old new run puts = (run, puts)
+told_none : (start : State) (schedule : Schedule) (entries : List Entry) (points : List Point) (text : Ending → List ℕ) (outcome : Outcome)
+    (old new : End) → IsRunTo start schedule entries points Memory → PutsText text None outcome old new
+    → IsToldOf start schedule entries points text outcome old new
+told_none start schedule entries points text (Words fault) old new run puts = absurd puts
+told_none start schedule entries points text (PortCount named handed) old new run puts = absurd puts
+told_none start schedule entries points text (Shelf w) old new run puts = absurd puts
+told_none start schedule entries points text (TooLong w size) old new run puts = absurd puts
+told_none start schedule entries points text (Elf fault offset) old new run puts = absurd puts
+told_none start schedule entries points text (Symbols fault offset) old new run puts = absurd puts
+told_none start schedule entries points text (Points fault place) old new run puts = absurd puts
+told_none start schedule entries points text (Report ending) old new run puts = absurd puts
+told_none start schedule entries points text (Ended y) old new run puts = absurd puts
+told_none start schedule entries points text Listed old new run puts = absurd puts
+told_none start schedule entries points text Memory old new run puts = (run, puts)
 
-pub told_of : (start : State) (seed : ℕ) (entries : List Entry) (points : List Point) (text : Ending → List ℕ) (ending : Option Ending)
-    (outcome : Outcome) (old new : End) → IsRunTo start seed entries points (outcome_of ending) → PutsText text ending outcome old new
-    → IsToldOf start seed entries points text outcome old new
-told_of start seed entries points text (Some x) outcome old new run puts = told_ended start seed entries points text x outcome old new run puts
-told_of start seed entries points text None outcome old new run puts = told_none start seed entries points text outcome old new run puts
+pub told_of : (start : State) (schedule : Schedule) (entries : List Entry) (points : List Point) (text : Ending → List ℕ) (ending : Option Ending)
+    (outcome : Outcome) (old new : End) → IsRunTo start schedule entries points (outcome_of ending) → PutsText text ending outcome old new
+    → IsToldOf start schedule entries points text outcome old new
+told_of start schedule entries points text (Some x) outcome old new run puts = told_ended start schedule entries points text x outcome old new run puts
+told_of start schedule entries points text None outcome old new run puts = told_none start schedule entries points text outcome old new run puts

@@ -55,7 +55,8 @@ IsSure entries _ = has_failed (records_of_all entries) ≡ false
 -- a load's run, on its devices, which comes to this
 pub record IsLoadTo (load : LoadTask) (entries : List Entry) (points : List Point)
     (outcome : Outcome) : Type 0 where
-  pub runs : IsRunTo (start_of_run load.start 0) load.start.seed entries points outcome
+  pub runs : IsRunTo (start_of_run load.start 0) load.start.setup.schedule entries points
+      outcome
   pub devices : Seen
   pub matches : DevicesMatch (load_devices load.input) devices 0 (records_of_all entries)
   pub sure : IsSure entries outcome

@@ -1,10 +1,10 @@
 -- What is prepared for a command: the shelf's answers, what it was asked for, and what they give.
-use Rattle.std.specs.Prelude.{◌≡◌, ℕ, List, Option, Some, None, Result, Ok, Err, IfSome}
+use Rattle.std.specs.Prelude.{◌≡◌, ℕ, Bool, List, Option, Some, None, Result, Ok, Err, IfSome}
 use Rattle.edge_ports.specs.Shelves.{Loads, Shelved}
-use Rattle.machine_core.specs.declared.limits.Limits.{Limits}
 use Rattle.program_words.specs.Words.{command_of}
 use Rattle.program_words.specs.declared.command.Command.{Command}
 use Rattle.rescue_run.specs.declared.files.Files.{Files}
+use Rattle.rescue_run.specs.declared.setup.Setup.{Setup}
 use Rattle.rescue_run.specs.declared.task.Task.{Task}
 use Rattle.rescue_run.specs.declared.outcome.Outcome.{Outcome}
 use Rattle.rescue_run.specs.declared.outcome.Outcome.TheVariants.{Memory}
@@ -14,13 +14,13 @@ use Rattle.rescue_run.specs.Loading.{listed_by, loaded_of, loads_of_files, Answe
 use Rattle.rescue_run.specs.Reads.{AreAnswers, IsAskedFor, IsOrMemory}
 use Rattle.rescue_run.specs.Words.{files_of, list_with, loads_by, loads_for, loads_read, run_with, task_by, task_for, task_read}
 
--- files were loaded for a run with these limits and this seed
-pub record StartsFiles (f : Files) (limits : Limits) (seed : ℕ) (old new : Shelved)
+-- files were loaded for a run with this setup
+pub record StartsFiles (f : Files) (setup : Setup) (old new : Shelved)
     (result : Result Task Outcome) : Type 0 where
   pub answers : Answers
   pub answered : AreAnswers old new f answers
   pub asked : IsAskedFor (result ≡ Err Memory) old.asked new.asked (loads_of_files f answers)
-  pub value : IsOrMemory result (run_with limits seed (loaded_of f answers))
+  pub value : IsOrMemory result (run_with setup (loaded_of f answers))
 
 -- the file of a program was loaded for the list of its symbols
 pub record ListsFile (name : List ℕ) (old new : Shelved) (result : Result Task Outcome) : Type 0
@@ -51,10 +51,11 @@ abbrev pub AreAnswersFor : List (List ℕ) → Shelved → Shelved → Answers �
 AreAnswersFor words old new answers = (c : Command) (f : Files) → command_of words ≡ Ok c
     → files_of c ≡ Some f → AreAnswers old new f answers
 
--- the same for words, and so many ports that are handed in
-pub record Prepares (words : List (List ℕ)) (handed : ℕ) (old new : Shelved)
+-- the same for words, and so many ports that are handed in, where there are threads or none
+pub record Prepares (threads : Bool) (words : List (List ℕ)) (handed : ℕ) (old new : Shelved)
     (result : Result Task Outcome) : Type 0 where
   pub answers : Answers
   pub answered : AreAnswersFor words old new answers
-  pub asked : IsAskedFor (result ≡ Err Memory) old.asked new.asked (loads_for words handed answers)
-  pub value : IsOrMemory result (task_for words handed answers)
+  pub asked : IsAskedFor (result ≡ Err Memory) old.asked new.asked
+      (loads_for threads words handed answers)
+  pub value : IsOrMemory result (task_for threads words handed answers)

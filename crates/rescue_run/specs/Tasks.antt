@@ -1,17 +1,33 @@
 -- What a command asks for, where its machine can be started.
+use Rattle.std.specs.Prelude.{Bool, true, false, IsTrue}
 use Rattle.guest_words.specs.Image.{IsLoadList}
+use Rattle.program_words.specs.declared.command.Command.{Command}
+use Rattle.program_words.specs.declared.command.Command.TheVariants as command
+use Rattle.rescue_run.specs.declared.setup.Schedule.{Schedule}
+use Rattle.rescue_run.specs.declared.setup.Schedule.TheVariants.{Lone, Workers}
 use Rattle.rescue_run.specs.declared.start.Start.{Start}
 use Rattle.rescue_run.specs.declared.task.Task.{Task}
 use Rattle.rescue_run.specs.declared.task.Task.TheVariants as task
 use Rattle.rescue_run.specs.Words.{IsWithin}
 
--- a machine can be started so
-pub record CanRun (start : Start) : Type 0 where
-  pub loads : IsLoadList start.loaded.image.loads
-  pub within : IsWithin start.limits
+-- workers are threads
+abbrev pub is_threaded : Schedule → Bool
+is_threaded (Lone seed) = false
+is_threaded Workers = true
 
--- and so can that of a task, if it has one
-abbrev pub CanStart : Task → Type 0
-CanStart (task.Run start) = CanRun start
-CanStart (task.List symbols) = Unit {0}
-CanStart (task.Load load) = CanRun load.start
+-- the command runs a program on threads
+abbrev pub runs_threads : Command → Bool
+runs_threads (command.Run points harts budget program ports) = true
+runs_threads _ = false
+
+-- a machine can be started and driven so, where there are threads or none
+pub record CanRun (threads : Bool) (start : Start) : Type 0 where
+  pub loads : IsLoadList start.loaded.image.loads
+  pub within : IsWithin start.setup
+  pub order : IsTrue (is_threaded start.setup.schedule) → IsTrue threads
+
+-- and so can that of a task, if it has one; a load runs on one thread
+abbrev pub CanStart : Bool → Task → Type 0
+CanStart threads (task.Run start) = CanRun threads start
+CanStart threads (task.List symbols) = Unit {0}
+CanStart threads (task.Load load) = CanRun false load.start

@@ -1,5 +1,6 @@
 //! What each kind of command is answered.
-ghost use Rattle.std.specs.Prelude.{◌≡◌, None, Some};
+ghost use Rattle.std.specs.Prelude.{◌≡◌, None, Some, false, true};
+ghost use Rattle.edge_ports.specs.declared.devices.Devices.{Devices};
 ghost use Rattle.edge_ports.specs.Seen.{seen};
 ghost use Rattle.machine_core.specs.Machine.{AllOpen};
 ghost use Rattle.rescue_report.specs.Report.{report_of};
@@ -9,18 +10,23 @@ ghost use Rattle.rescue_run.specs.Lines.{line_of};
 ghost use Rattle.rescue_run.specs.Puts.{IsSaid, IsTold, PutsText};
 ghost use Rattle.rescue_run.specs.Statuses.{status_of};
 ghost use Rattle.rescue_run.specs.Tasks.{CanRun};
-ghost use Rattle.rescue_run.specs.Top.{told, StaySame};
+ghost use Rattle.rescue_run.specs.Top.{told, RunsOn, StaySame};
+ghost use Rattle.rescue_run.specs.declared.start.Start.{Start};
 
 use crate::answer::Answer;
 use crate::load::{LoadRan, run_load};
 use crate::outcome::Outcome;
 use crate::put::{put_line, put_list, put_report, put_summary};
 use crate::run::{Ran, run};
+use crate::shared::run_on_threads;
 use crate::start::Start;
 use crate::task::LoadTask;
 use edge_ports::{Devices, Port, Sink, Source};
 use elf_symbols::Symbols;
 use std::alloc::Global;
+use std::sync::Wait;
+use std::thread::Threads;
+use stop_gate::Door;
 
 /// The answer of a command for which no machine was started.
 fn still<S, T, P>(outcome: Outcome, devices: Devices<S, T, P>) -> Answer<S, T, P>
@@ -78,8 +84,8 @@ pub fn answer_list<S: Source, T: Sink, P: Port, R: Sink>(
     still(outcome, devices)
 }
 
-/// The answer of a run: its report is put.
-fn answer_of_run<S, T, P, R: Sink>(
+/// The answer of a run that left this: its report is put.
+fn answer_of_ran<S, T, P, R: Sink>(
     alloc: Global,
     ran: Ran<S, T, P>,
     report: &mut R,
@@ -110,24 +116,70 @@ fn answer_of_run<S, T, P, R: Sink>(
     }
 }
 
-/// Runs what was loaded on the devices.
+/// The answer of a run, or of the devices that came back since memory was wanting for its start.
+fn answer_of_run<S: Source, T: Sink, P: Port, R: Sink>(
+    alloc: Global,
+    ran: Result<Ran<S, T, P>, Devices<S, T, P>>,
+    report: &mut R,
+) -> Answer<S, T, P>
+    ensures run { (start : Start) (devices : Devices S T P)
+        → RunsOn S.end T.end P.end start devices ran
+        → IsRunOn start (seen S.end T.end P.end devices) (R.end report.old) (R.end report.new)
+            (told S.end T.end P.end result) }
+    ensures status { result.status ≡ status_of result.outcome }
+    ensures same { (start : Start) (devices : Devices S T P)
+        → RunsOn S.end T.end P.end start devices ran
+        → StaySame result.history devices result.devices }
+{
+    match ran {
+        Err(devices) => answer_with_line(alloc, Outcome::Memory, devices, report),
+        Ok(ran) => answer_of_ran(alloc, ran, report),
+    }
+}
+
+/// Runs what was loaded on the devices, on one thread.
 pub fn answer_run<S: Source, T: Sink, P: Port, R: Sink>(
     alloc: Global,
     start: &Start,
     devices: Devices<S, T, P>,
     report: &mut R,
 ) -> Answer<S, T, P>
-    requires can { CanRun start.now }
+    requires can { CanRun false start.now }
     requires open { AllOpen (seen S.end T.end P.end devices) }
     ensures run { IsRunOn start.now (seen S.end T.end P.end devices) (R.end report.old)
         (R.end report.new) (told S.end T.end P.end result) }
     ensures status { result.status ≡ status_of result.outcome }
     ensures same { StaySame result.history devices result.devices }
 {
-    match run(alloc, start, devices) {
-        Err(devices) => answer_with_line(alloc, Outcome::Memory, devices, report),
-        Ok(ran) => answer_of_run(alloc, ran, report),
-    }
+    let ran = run(alloc, start, devices);
+    answer_of_run(alloc, ran, report)
+}
+
+/// Runs what was loaded on the devices, where there are threads.
+pub fn answer_run_on_threads<
+    H: Threads + Wait + Sync,
+    S: Source + Send,
+    T: Sink + Send,
+    P: Port + Send,
+    R: Sink,
+    D: Door,
+>(
+    rt: &H,
+    alloc: Global,
+    start: &Start,
+    devices: Devices<S, T, P>,
+    report: &mut R,
+    door: &D,
+) -> Answer<S, T, P>
+    requires can { CanRun true start.now }
+    requires open { AllOpen (seen S.end T.end P.end devices) }
+    ensures run { IsRunOn start.now (seen S.end T.end P.end devices) (R.end report.old)
+        (R.end report.new) (told S.end T.end P.end result) }
+    ensures status { result.status ≡ status_of result.outcome }
+    ensures same { StaySame result.history devices result.devices }
+{
+    let ran = run_on_threads(rt, alloc, start, devices, door);
+    answer_of_run(alloc, ran, report)
 }
 
 /// The answer of the run of the load of this number with so many bytes of input: its summary is
@@ -181,7 +233,7 @@ pub fn answer_load<S: Source, T: Sink, P: Port, R: Sink>(
     devices: Devices<S, T, P>,
     report: &mut R,
 ) -> Answer<S, T, P>
-    requires can { CanRun load.start }
+    requires can { CanRun false load.start }
     ensures run { IsLoadRun load (seen S.end T.end P.end devices) (R.end report.old)
         (R.end report.new) (told S.end T.end P.end result) }
     ensures status { result.status ≡ status_of result.outcome }

@@ -12,12 +12,14 @@ mod outcome;
 mod prepare;
 mod put;
 mod run;
+mod setup;
+mod shared;
 mod start;
 mod system;
 mod task;
-mod top;
+mod tops;
 
 pub use answer::Answer;
 pub use outcome::{Outcome, Which};
 pub use system::{run_words, run_words_to};
-pub use top::alone_top;
+pub use tops::{alone_top, top};

@@ -11,19 +11,19 @@ ghost use Rattle.rescue_run.specs.Loading.{loaded_from};
 ghost use Rattle.rescue_run.specs.Reads.{IsOrMemory};
 ghost use Rattle.rescue_run.specs.Runs.{outcome_of};
 ghost use Rattle.rescue_run.specs.Tasks.{CanRun, CanStart};
-ghost use Rattle.rescue_run.specs.Words.{load_limits, load_with};
+ghost use Rattle.rescue_run.specs.Words.{load_setup, load_with};
 
 use crate::failures::any_failed;
 use crate::loading::loaded_from;
 use crate::outcome::Outcome;
 use crate::run::{Ran, run};
+use crate::setup::{Schedule, Setup};
 use crate::start::{Loaded, Start};
 use crate::task::{LoadTask, Task};
 use edge_ports::{Devices, MemoryPort, MemorySink, SureSource};
 use guest_words::limits::BUDGET;
 use guest_words::{Bytes, MemoryWant};
 use load_maker::{Made, make};
-use machine_core::Limits;
 use std::alloc::Global;
 
 /// How many slots for harts a load has.
@@ -43,21 +43,18 @@ fn load_task(number: u64, input: Bytes, loaded: Loaded) -> LoadTask
     ensures value { result ≡ record {
       number = number;
       input = input;
-      start = record { loaded = loaded; limits = load_limits; seed = number };
+      start = record { loaded = loaded; setup = load_setup number };
     } }
 {
-    let limits = Limits {
+    let setup = Setup {
         harts: LOAD_HARTS,
         budget: BUDGET,
+        schedule: Schedule::Lone { seed: number },
     };
     LoadTask {
         number,
         input,
-        start: Start {
-            loaded,
-            limits,
-            seed: number,
-        },
+        start: Start { loaded, setup },
     }
 }
 
@@ -66,7 +63,7 @@ pub fn prepare_load(alloc: Global, number: u64) -> Result<Task, Outcome>
     requires least { 1 ≤ number }
     requires most { number ≤ LOADS }
     ensures value { IsOrMemory result (load_with number (loaded_from load_file points_file)) }
-    ensures can { IfOk result CanStart }
+    ensures can { IfOk result (CanStart false) }
 {
     let Made { elf, points, input } = make(alloc, number)?;
     match loaded_from(alloc, elf.items(), points.items()) {
@@ -103,7 +100,7 @@ fn if_sure(ran: LoadRan) -> LoadRan
 /// Runs a load on devices of its own. Of these only the output can fail, and only for want of
 /// memory, so that the run then has no ending.
 pub fn run_load(alloc: Global, load: LoadTask) -> Result<LoadRan, MemoryWant>
-    requires can { CanRun load.start }
+    requires can { CanRun false load.start }
     ensures run { IfOk result (λ ran.
         IsLoadTo load ran.history.entries ran.points (outcome_of ran.ending)) }
     ensures out { IfOk result (λ ran. ran.devices.out.given ≡ out_of ran.history.entries) }

@@ -4,18 +4,18 @@ ghost use Rattle.program_words.specs.Words.{texts};
 ghost use Rattle.rescue_run.specs.Outcomes.{of_words_fault};
 ghost use Rattle.rescue_run.specs.Prepares.{ListsFile, Prepares, PreparesCommand, PreparesCounted, StartsFiles};
 ghost use Rattle.rescue_run.specs.Reads.{Follows};
-ghost use Rattle.rescue_run.specs.Tasks.{CanStart};
-ghost use Rattle.rescue_run.specs.Words.{needs_threads, ports_named, IsWithin};
+ghost use Rattle.rescue_run.specs.Tasks.{is_threaded, runs_threads, CanStart};
+ghost use Rattle.rescue_run.specs.Words.{lacks_threads, needs_threads, ports_named, IsWithin};
 
 use crate::files::Files;
 use crate::load::prepare_load;
 use crate::loading::{load_files, load_symbols};
 use crate::outcome::Outcome;
+use crate::setup::{Schedule, Setup};
 use crate::start::Start;
 use crate::task::Task;
 use edge_ports::Shelf;
 use guest_words::Name;
-use machine_core::Limits;
 use program_words::{Command, WordFault, WordsFault, needs_threads, read_words};
 use std::alloc::Global;
 
@@ -24,6 +24,13 @@ fn wants_threads(words: &[String]) -> bool
     ensures value { result ≡ needs_threads (texts words.now) }
 {
     needs_threads(words)
+}
+
+/// Whether the command is run on threads, and there are none.
+fn lacks_threads(threads: bool, words: &[String]) -> bool
+    ensures value { result ≡ lacks_threads threads (texts words.now) }
+{
+    !threads && wants_threads(words)
 }
 
 /// What words come to that give no command.
@@ -46,31 +53,26 @@ fn named_ports(command: &Command) -> u64
     }
 }
 
-/// The run of what the files give, with these limits and this seed.
+/// The run of what the files give, with this setup.
 fn prepare_run<F: Shelf>(
     alloc: Global,
     files: Files,
-    limits: Limits,
-    seed: u64,
+    setup: Setup,
     shelf: &mut F,
 ) -> Result<Task, Outcome>
-    requires within { IsWithin limits }
-    ensures starts { StartsFiles files limits seed (F.seen shelf.old) (F.seen shelf.new) result }
-    ensures can { IfOk result CanStart }
+    requires within { IsWithin setup }
+    ensures starts { StartsFiles files setup (F.seen shelf.old) (F.seen shelf.new) result }
+    ensures can { IfOk result (CanStart (is_threaded setup.schedule)) }
     ensures follows { Follows (F.seen shelf.old) (F.seen shelf.new) }
 {
     let loaded = load_files(alloc, &files, shelf)?;
-    Ok(Task::Run(Start {
-        loaded,
-        limits,
-        seed,
-    }))
+    Ok(Task::Run(Start { loaded, setup }))
 }
 
 /// The list of the symbols of a program.
 fn prepare_list<F: Shelf>(alloc: Global, program: Name, shelf: &mut F) -> Result<Task, Outcome>
     ensures lists { ListsFile program (F.seen shelf.old) (F.seen shelf.new) result }
-    ensures can { IfOk result CanStart }
+    ensures can { IfOk result (CanStart false) }
     ensures follows { Follows (F.seen shelf.old) (F.seen shelf.new) }
 {
     let symbols = load_symbols(alloc, &program, shelf)?;
@@ -85,10 +87,24 @@ fn prepare_command<F: Shelf>(
 ) -> Result<Task, Outcome>
     requires range { IsInRange command }
     ensures prepares { PreparesCommand command (F.seen shelf.old) (F.seen shelf.new) result }
-    ensures can { IfOk result CanStart }
+    ensures can { IfOk result (CanStart (runs_threads command)) }
     ensures follows { Follows (F.seen shelf.old) (F.seen shelf.new) }
 {
     match command {
+        Command::Run {
+            points,
+            harts,
+            budget,
+            program,
+            ..
+        } => {
+            let setup = Setup {
+                harts,
+                budget,
+                schedule: Schedule::Workers,
+            };
+            prepare_run(alloc, Files { program, points }, setup, shelf)
+        }
         Command::Alone {
             points,
             harts,
@@ -97,10 +113,13 @@ fn prepare_command<F: Shelf>(
             program,
             ..
         } => {
-            let limits = Limits { harts, budget };
-            prepare_run(alloc, Files { program, points }, limits, seed, shelf)
+            let setup = Setup {
+                harts,
+                budget,
+                schedule: Schedule::Lone { seed },
+            };
+            prepare_run(alloc, Files { program, points }, setup, shelf)
         }
-        Command::Run { .. } => Err(Outcome::Words(WordFault::Threads)),
         Command::List { program } => prepare_list(alloc, program, shelf),
         Command::Load { number } => prepare_load(alloc, number),
     }
@@ -116,7 +135,7 @@ fn prepare_counted<F: Shelf>(
     requires range { IsInRange command }
     ensures prepares { PreparesCounted command handed (F.seen shelf.old) (F.seen shelf.new)
         result }
-    ensures can { IfOk result CanStart }
+    ensures can { IfOk result (CanStart (runs_threads command)) }
     ensures follows { Follows (F.seen shelf.old) (F.seen shelf.new) }
 {
     let named = named_ports(&command);
@@ -128,18 +147,21 @@ fn prepare_counted<F: Shelf>(
 }
 
 /// What these words ask for with so many ports that are handed in, or why nothing is done.
+/// `threads` says whether the caller has threads: a command on threads is refused where there are
+/// none, before its other words are read.
 pub fn prepare<F: Shelf>(
     alloc: Global,
+    threads: bool,
     words: &[String],
     handed: u64,
     shelf: &mut F,
 ) -> Result<Task, Outcome>
-    ensures prepares { Prepares (texts words.now) handed (F.seen shelf.old) (F.seen shelf.new)
-        result }
-    ensures can { IfOk result CanStart }
+    ensures prepares { Prepares threads (texts words.now) handed (F.seen shelf.old)
+        (F.seen shelf.new) result }
+    ensures can { IfOk result (CanStart threads) }
     ensures follows { Follows (F.seen shelf.old) (F.seen shelf.new) }
 {
-    if wants_threads(words) {
+    if lacks_threads(threads, words) {
         return Err(Outcome::Words(WordFault::Threads));
     }
     match read_words(alloc, words) {

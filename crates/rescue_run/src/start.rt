@@ -1,5 +1,5 @@
+use crate::setup::Setup;
 use guest_words::{Image, Points};
-use machine_core::Limits;
 
 /// What a command's files give.
 #[derive(Drop)]
@@ -9,10 +9,9 @@ pub struct Loaded {
     pub points: Points,
 }
 
-/// What runs, how much it may have, and the seed of the words that choose among its harts.
+/// What runs, and how.
 #[derive(Drop)]
 pub struct Start {
     pub loaded: Loaded,
-    pub limits: Limits,
-    pub seed: u64,
+    pub setup: Setup,
 }

@@ -1,28 +1,78 @@
-//! The top call over the files and the streams of the system.
-use crate::top::alone_top;
+//! The top calls over the files and the streams of the system.
+use crate::tops::{alone_top, top};
 use edge_ports::{FilePort, FileShelf, Port, Standard, StdSink, StdSource};
-use program_words::{port_names, report_to_out};
+use program_words::{needs_threads, port_names, report_to_out};
 use std::alloc::AllocError;
 use std::process::ExitCode;
+use std::sync::Wait;
+use std::thread::Threads;
+use stop_gate::OpenDoor;
 
 /// Runs a program by the words of a command, and answers its exit status. What the command tells
 /// goes to standard output where it is the command's own output, and else to standard error.
-pub fn run_words(rt: &HostRuntime, words: &[String]) -> Result<ExitCode, AllocError> {
+///
+/// `host` starts the threads of a command that needs some, and then it may wait forever.
+pub fn run_words<H: Threads + Wait + Sync>(
+    host: &H,
+    rt: &HostRuntime,
+    words: &[String],
+) -> Result<ExitCode, AllocError> {
     let report = if report_to_out(words) {
         Standard::Out(rt.stdout())
     } else {
         Standard::Err(rt.stderr())
     };
-    run_words_to(rt, words, report)
+    run_words_to(host, rt, words, report)
 }
 
-/// Runs a program by the words of a command, and answers its exit status. What the command tells
-/// goes to `report`. The ports are those that the words name, and none where they are refused.
-pub fn run_words_to(
+/// Runs a program by the words of a command, as [`run_words`] does. What the command tells goes to
+/// `report`.
+pub fn run_words_to<H: Threads + Wait + Sync>(
+    host: &H,
     rt: &HostRuntime,
     words: &[String],
     report: Standard,
 ) -> Result<ExitCode, AllocError> {
+    let alloc = rt.alloc();
+    let ports = open_ports(rt, words)?;
+    let mut shelf = FileShelf::new(rt.clone()?);
+    let input = StdSource::new(rt.stdin());
+    let out = StdSink::new(Standard::Out(rt.stdout()));
+    let err = StdSink::new(Standard::Err(rt.stderr()));
+    let mut report = StdSink::new(report);
+    let answer = if needs_threads(words) {
+        top(
+            host,
+            alloc,
+            words,
+            &mut shelf,
+            input,
+            out,
+            err,
+            ports,
+            &mut report,
+            &OpenDoor,
+        )
+    } else {
+        alone_top(
+            alloc,
+            words,
+            &mut shelf,
+            input,
+            out,
+            err,
+            ports,
+            &mut report,
+        )
+    };
+    Ok(ExitCode::from(answer.status))
+}
+
+/// The ports that the words name, and none where they are refused.
+fn open_ports(
+    rt: &HostRuntime,
+    words: &[String],
+) -> Result<Vec<Box<dyn Port + Send>>, AllocError> {
     let alloc = rt.alloc();
     let mut ports: Vec<Box<dyn Port + Send>> = Vec::new(alloc);
     if let Ok(names) = port_names(alloc, words) {
@@ -31,16 +81,5 @@ pub fn run_words_to(
             ports.push(Box::new(alloc, port).map_err(|_| AllocError)?)?;
         }
     }
-    let mut shelf = FileShelf::new(rt.clone()?);
-    let answer = alone_top(
-        alloc,
-        words,
-        &mut shelf,
-        StdSource::new(rt.stdin()),
-        StdSink::new(Standard::Out(rt.stdout())),
-        StdSink::new(Standard::Err(rt.stderr())),
-        ports,
-        &mut StdSink::new(report),
-    );
-    Ok(ExitCode::from(answer.status))
+    Ok(ports)
 }

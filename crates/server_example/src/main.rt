@@ -11,5 +11,5 @@ fn main(rt: HostRuntime) -> anyhow::Result<ExitCode> {
     for word in env::args(&rt)?.skip(1) {
         words.push(word)?;
     }
-    Ok(run_words_to(&rt, &words, Standard::Out(rt.stdout()))?)
+    Ok(run_words_to(&rt, &rt, &words, Standard::Out(rt.stdout()))?)
 }

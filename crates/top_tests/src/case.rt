@@ -91,11 +91,16 @@ pub fn list(alloc: Global, texts: &[&str]) -> Result<Vec<String>, AllocError> {
     Ok(words)
 }
 
-/// The files of a case.
-pub fn shelf(alloc: Global, case: &Case) -> Result<MemoryShelf, AllocError> {
+/// A shelf with this program under the name `p`, and with this rescue file, if there is one, under
+/// the name `f`.
+pub fn shelf(
+    alloc: Global,
+    program: Vec<u8>,
+    points: Option<&str>,
+) -> Result<MemoryShelf, AllocError> {
     let mut files = Vec::new(alloc);
-    files.push(file(alloc, "p", image(alloc, case.words, case.data)?)?)?;
-    if let Some(points) = case.points {
+    files.push(file(alloc, "p", program)?)?;
+    if let Some(points) = points {
         files.push(file(alloc, "f", points.as_bytes().to_vec(alloc)?)?)?;
     }
     Ok(MemoryShelf::new(files, Vec::new(alloc)))
@@ -104,12 +109,13 @@ pub fn shelf(alloc: Global, case: &Case) -> Result<MemoryShelf, AllocError> {
 /// Runs a case.
 pub fn run(alloc: Global, case: &Case) -> Result<Outcome, AllocError> {
     let words = command(alloc, case)?;
-    let mut shelf = shelf(alloc, case)?;
+    let program = image(alloc, case.words, case.data)?;
+    let mut shelf = shelf(alloc, program, case.points)?;
     run_on(alloc, &words, &mut shelf, case)
 }
 
-// A sink with room for all that a case puts; its calls of these numbers fail.
-fn sink(alloc: Global, failing: &[u64]) -> Result<MemorySink, AllocError> {
+/// A sink with room for all that a case puts; its calls of these numbers fail.
+pub fn sink(alloc: Global, failing: &[u64]) -> Result<MemorySink, AllocError> {
     MemorySink::with_room(alloc, 1024, failing.to_vec(alloc)?).map_err(|_| AllocError)
 }
 

@@ -14,6 +14,8 @@ mod harts;
 #[cfg(test)]
 mod image;
 #[cfg(test)]
+mod meeting;
+#[cfg(test)]
 mod nested;
 #[cfg(test)]
 mod other_commands;
@@ -33,3 +35,7 @@ mod rescues;
 mod seeds;
 #[cfg(test)]
 mod stretches;
+#[cfg(test)]
+mod server;
+#[cfg(test)]
+mod threads;

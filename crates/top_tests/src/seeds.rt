@@ -1,5 +1,6 @@
 //! Harts that are ready at once: the words of the seed say which of them goes on.
 use crate::case::{Case, command, run_on, shelf};
+use crate::image::image;
 use std::alloc::{AllocError, Global};
 use std::test::Fail;
 
@@ -22,7 +23,9 @@ const FOUR: [u32; 34] = [
 fn given(alloc: Global, case: &Case, seed: u64) -> Result<Vec<u8>, AllocError> {
     let mut words = command(alloc, case)?;
     words.push(format!(in alloc; "--seed={seed}")?)?;
-    let outcome = run_on(alloc, &words, &mut shelf(alloc, case)?, case)?;
+    let program = image(alloc, case.words, case.data)?;
+    let mut files = shelf(alloc, program, case.points)?;
+    let outcome = run_on(alloc, &words, &mut files, case)?;
     Ok(outcome.answer.devices.out.given().to_vec(alloc)?)
 }
 

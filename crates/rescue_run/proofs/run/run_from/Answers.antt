@@ -1,19 +1,16 @@
-use Rattle.std.proofs.Common.{ap, sym, ◌∙◌}
-use Rattle.guest_words.specs.State.{State}
+use Rattle.std.proofs.Common.{ap, sym, subst}
 use Rattle.machine_core.specs.Machine.{Machine}
-use Rattle.rescue_run.proofs.Coming.{explains, lone_whole}
+use Rattle.rescue_run.specs.Runs.{KeepsOrder}
+use Rattle.rescue_run.proofs.Coming.{lone_whole, ran_on}
 use Rattle.rescue_run.proofs.run.run_from.Goals as goal
 
-pub returns-clause-run : goal.returns-clause-run
-returns-clause-run g c =
-    let last = c.into_parts-history in
+pub returns-clause-runs : goal.returns-clause-runs
+returns-clause-runs g c =
+    let from = g.K.Origin.state in
+    let ran = c.ran_of.result in
     let begun = c.in_ok-machine.ensures.ok in
-    record {
-      run = last.ensures.run;
-      lone = lone_whole g.K.Origin.state c.args.start.now.seed c.in_ok-machine.machine c.run_alone-machine.result last.result.0.entries
-          (ap (λ (m : Machine). m.history) begun) (ap (λ (m : Machine). m.state) begun) c.run_alone-machine.ensures.lone last.ensures.history;
-      last = last.ensures.points ∙ ap (λ (s : State). s.points) last.ensures.reaches;
-      explains = explains g.K.Origin.state last.result.0.entries _ last.ensures.run
-          (ap (λ (s : State). s.ending) c.requires.state)
-          (sym (c.ending-ending.ensures.value ∙ ap (λ (s : State). s.ending) last.ensures.reaches));
-    }
+    let order = lone_whole from c.in-Lone.seed c.in_ok-machine.machine c.run_alone.result ran.history.entries
+        (ap (λ (m : Machine). m.history) begun) (ap (λ (m : Machine). m.state) begun) c.run_alone.ensures.lone c.ran_of.ensures.history in
+    ran_on g.S.Source.end g.T.Sink.end g.P.Port.end c.args.start.now c.args.devices ran from g.K.Origin.devices
+    c.requires.state c.requires.devices c.ran_of.ensures.run c.ran_of.ensures.matches
+    (subst (λ s. KeepsOrder s from ran.history.entries) (sym c.in-Lone.is) order)

@@ -1,0 +1,167 @@
+//! The top calls.
+ghost use Rattle.std.specs.Prelude.{◌≡◌, false, length, true, IfOk, IsNone};
+ghost use Rattle.edge_ports.specs.Seen.{seen};
+ghost use Rattle.machine_core.specs.Machine.{AllOpen};
+ghost use Rattle.program_words.specs.Words.{texts};
+ghost use Rattle.rescue_run.specs.Headline.{ComesTo, Headline};
+ghost use Rattle.rescue_run.specs.Reads.{Follows};
+ghost use Rattle.rescue_run.specs.Statuses.{status_of};
+ghost use Rattle.rescue_run.specs.Tasks.{CanStart};
+ghost use Rattle.rescue_run.specs.Top.{handed, told, StaySame};
+
+use crate::answer::Answer;
+use crate::answers::{
+    answer_list, answer_load, answer_run, answer_run_on_threads, answer_with_line,
+};
+use crate::outcome::Outcome;
+use crate::prepare::prepare;
+use crate::task::Task;
+use edge_ports::{Devices, Port, Shelf, Sink, Source};
+use std::alloc::Global;
+use std::sync::Wait;
+use std::thread::Threads;
+use stop_gate::Door;
+
+fn port_count<S: Source, T: Sink, P: Port>(devices: &Devices<S, T, P>) -> u64
+    ensures { result ≡ length (seen S.end T.end P.end devices.now).ports }
+{
+    devices.ports.len() as u64
+}
+
+/// The devices of a run, none of them closed.
+fn connect<S: Source, T: Sink, P: Port>(input: S, out: T, err: T, ports: Vec<P>) -> Devices<S, T, P>
+    ensures told { seen S.end T.end P.end result
+        ≡ handed S.end T.end P.end input out err ports.items }
+    ensures open { AllOpen (seen S.end T.end P.end result) }
+    ensures input { result.input ≡ input }
+    ensures out { result.out ≡ out }
+    ensures err { result.err ≡ err }
+    ensures ports { result.ports ≡ ports }
+{
+    Devices::new(input, out, err, ports)
+}
+
+/// Does what was prepared, on one thread, or puts why nothing is done.
+fn answer<S: Source, T: Sink, P: Port, R: Sink>(
+    alloc: Global,
+    prepared: Result<Task, Outcome>,
+    devices: Devices<S, T, P>,
+    report: &mut R,
+) -> Answer<S, T, P>
+    requires can { IfOk prepared (CanStart false) }
+    requires open { AllOpen (seen S.end T.end P.end devices) }
+    ensures comes { ComesTo prepared (seen S.end T.end P.end devices) (R.end report.old)
+        (R.end report.new) (told S.end T.end P.end result) }
+    ensures status { result.status ≡ status_of result.outcome }
+    ensures same { StaySame result.history devices result.devices }
+{
+    match prepared {
+        Ok(Task::Run(start)) => answer_run(alloc, &start, devices, report),
+        Ok(Task::List(symbols)) => answer_list(alloc, &symbols, devices, report),
+        Ok(Task::Load(load)) => answer_load(alloc, load, devices, report),
+        Err(outcome) => answer_with_line(alloc, outcome, devices, report),
+    }
+}
+
+/// Does what was prepared, where there are threads, or puts why nothing is done.
+fn answer_on_threads<
+    H: Threads + Wait + Sync,
+    S: Source + Send,
+    T: Sink + Send,
+    P: Port + Send,
+    R: Sink,
+    D: Door,
+>(
+    rt: &H,
+    alloc: Global,
+    prepared: Result<Task, Outcome>,
+    devices: Devices<S, T, P>,
+    report: &mut R,
+    door: &D,
+) -> Answer<S, T, P>
+    requires can { IfOk prepared (CanStart true) }
+    requires open { AllOpen (seen S.end T.end P.end devices) }
+    ensures comes { ComesTo prepared (seen S.end T.end P.end devices) (R.end report.old)
+        (R.end report.new) (told S.end T.end P.end result) }
+    ensures status { result.status ≡ status_of result.outcome }
+    ensures same { StaySame result.history devices result.devices }
+{
+    match prepared {
+        Ok(Task::Run(start)) => {
+            answer_run_on_threads(rt, alloc, &start, devices, report, door)
+        }
+        Ok(Task::List(symbols)) => answer_list(alloc, &symbols, devices, report),
+        Ok(Task::Load(load)) => answer_load(alloc, load, devices, report),
+        Err(outcome) => answer_with_line(alloc, outcome, devices, report),
+    }
+}
+
+/// Does what the words of a command ask for: runs a program to its end, and puts the report; lists
+/// the symbols of a program; or runs a load on devices of its own, and puts its summary. All this
+/// on one thread: a command that needs more is refused.
+///
+/// Where nothing is done, or a run doesn't end, the report sink is given one line instead. A
+/// failure of that put changes nothing in the answer. `ports` are the devices from descriptor 3 on,
+/// as many as the words name.
+pub fn alone_top<F: Shelf, S: Source, T: Sink, R: Sink>(
+    alloc: Global,
+    words: &[String],
+    shelf: &mut F,
+    input: S,
+    out: T,
+    err: T,
+    ports: Vec<Box<dyn Port + Send>>,
+    report: &mut R,
+) -> Answer<S, T>
+    ensures headline { Headline false (texts words.now) (F.seen shelf.old) (F.seen shelf.new)
+        (handed S.end T.end ⟦<Box<dyn Port + Send> as Port>⟧.end input out err ports.items)
+        (R.end report.old) (R.end report.new)
+        (told S.end T.end ⟦<Box<dyn Port + Send> as Port>⟧.end result) }
+
+    // Where no machine was started, the objects are those that were handed in.
+    ensures same { IsNone result.history
+        → (result.devices.input ≡ input) × (result.devices.out ≡ out)
+        × (result.devices.err ≡ err) × (result.devices.ports ≡ ports) }
+    ensures files { Follows (F.seen shelf.old) (F.seen shelf.new) }
+{
+    let devices = connect(input, out, err, ports);
+    let prepared = prepare(alloc, false, words, port_count(&devices), shelf);
+    answer(alloc, prepared, devices, report)
+}
+
+/// Does what [`alone_top`] does, where there are threads: a command on threads runs a program by a
+/// worker for each hart. Each worker asks the door before each of its turns. It may wait forever.
+pub fn top<
+    H: Threads + Wait + Sync,
+    F: Shelf,
+    S: Source + Send,
+    T: Sink + Send,
+    R: Sink,
+    D: Door,
+>(
+    rt: &H,
+    alloc: Global,
+    words: &[String],
+    shelf: &mut F,
+    input: S,
+    out: T,
+    err: T,
+    ports: Vec<Box<dyn Port + Send>>,
+    report: &mut R,
+    door: &D,
+) -> Answer<S, T>
+    ensures headline { Headline true (texts words.now) (F.seen shelf.old) (F.seen shelf.new)
+        (handed S.end T.end ⟦<Box<dyn Port + Send> as Port>⟧.end input out err ports.items)
+        (R.end report.old) (R.end report.new)
+        (told S.end T.end ⟦<Box<dyn Port + Send> as Port>⟧.end result) }
+
+    // Where no machine was started, the objects are those that were handed in.
+    ensures same { IsNone result.history
+        → (result.devices.input ≡ input) × (result.devices.out ≡ out)
+        × (result.devices.err ≡ err) × (result.devices.ports ≡ ports) }
+    ensures files { Follows (F.seen shelf.old) (F.seen shelf.new) }
+{
+    let devices = connect(input, out, err, ports);
+    let prepared = prepare(alloc, true, words, port_count(&devices), shelf);
+    answer_on_threads(rt, alloc, prepared, devices, report, door)
+}
