@@ -52,8 +52,8 @@ impl Part {
         self.log.reserve(notes)
     }
 
-    /// The part of a call that closes goes behind this one, and behind the entering of the call. Its
-    /// log is left over, empty.
+    /// The part of a call that closes goes behind this one, and behind the entering of the call.
+    /// Its log is left over, empty.
     pub(crate) fn join(&mut self, inner: Part, hart: u8, point: PointRef) -> Log
         requires entries { length inner.entries.entries + 1 ≤ self.old.entries.spare }
         requires notes { length inner.log.notes ≤ self.old.log.spare }
