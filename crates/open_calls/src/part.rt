@@ -1,4 +1,4 @@
-ghost use Rattle.std.specs.Prelude.{◌≡◌, ◌+◌, ◌≤◌, ◌++◌, ◌∷◌, length, OnOk, IfOk};
+ghost use Rattle.std.specs.Prelude.{◌≡◌, ◌+◌, ◌≤◌, ◌++◌, [], ◌∷◌, length, OnOk, IfOk};
 ghost use Rattle.run_history.specs.declared.entry.Entry.{Entered};
 ghost use Rattle.open_calls.specs.Rooms.{IsFresh, IsWider, Uses};
 
@@ -60,6 +60,7 @@ impl Part {
         ensures entries { self.new.entries.entries
             ≡ self.old.entries.entries ++ Entered hart point ∷ inner.entries.entries }
         ensures notes { self.new.log.notes ≡ self.old.log.notes ++ inner.log.notes }
+        ensures left { result.notes ≡ [] }
         ensures room { Uses (length inner.entries.entries + 1) (length inner.log.notes)
             self.old self.new }
     {
