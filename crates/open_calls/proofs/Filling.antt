@@ -98,16 +98,16 @@ close_rooms acts notes h top p o os r entries notes_are joins =
           (length top.log.notes + notes + length o.part.log.notes) (length p.log.notes + notes) os (omega (arith, es)) (omega (arith, ns)) r.2;
     }
 
--- an inner part goes
-pub take_rooms : (acts now notes : ℕ) (top : Part) (o : Outer) (os : List Outer) → now ≤ acts + 1
-    → HasRoom (length top.entries.entries + acts + 1) (length top.log.notes + notes) (o ∷ os) → Rooms now notes o.part os
-take_rooms acts now notes top o os few r =
+-- an inner part goes, with all that it used of the room
+pub take_rooms : (acts now notes now_notes : ℕ) (top : Part) (o : Outer) (os : List Outer) → now ≤ acts + length top.entries.entries + 1 → now_notes ≤ notes + length top.log.notes
+    → HasRoom (length top.entries.entries + acts + 1) (length top.log.notes + notes) (o ∷ os) → Rooms now now_notes o.part os
+take_rooms acts now notes now_notes top o os few few_notes r =
     let a = r.0 in let b = r.1 in record {
       entries = omega (arith, a, few);
-      log = omega (arith, b);
+      log = omega (arith, b, few_notes);
       above =
           less (length top.entries.entries + acts + 1 + 1 + length o.part.entries.entries) (length o.part.entries.entries + now + 1)
-          (length top.log.notes + notes + length o.part.log.notes) (length o.part.log.notes + notes) os (omega (arith, few)) (omega arith) r.2;
+          (length top.log.notes + notes + length o.part.log.notes) (length o.part.log.notes + now_notes) os (omega (arith, few)) (omega (arith, few_notes)) r.2;
     }
 
 -- a call opens, with room for fewer entries and notes

@@ -319,7 +319,8 @@ impl Calls {
         };
         let Outer { part, point, kept } = outer;
         let inner = replace(&mut self.top, part);
-        self.acts = at_least_one(self.acts);
+        self.acts = with_those_of_call(self.acts, inner.entries.items().len());
+        self.notes = self.notes.saturating_add(inner.log.length());
         Taken {
             inside: inner.entries,
             log: inner.log,
@@ -356,10 +357,11 @@ fn one_less(acts: usize) -> usize
     (acts - 1).min(ENTRIES)
 }
 
-// The same room, where the call is taken back.
-fn at_least_one(acts: usize) -> usize
+// Where the call is taken back, what encloses it has the room again that the call used, and that of
+// the entering.
+fn with_those_of_call(acts: usize, entries: usize) -> usize
     ensures some { 0 < result }
-    ensures within { result ≤ acts + 1 }
+    ensures within { result ≤ acts + entries + 1 }
 {
-    acts.max(1)
+    acts.saturating_add(entries).max(1)
 }

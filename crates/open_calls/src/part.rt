@@ -1,4 +1,4 @@
-ghost use Rattle.std.specs.Prelude.{◌≡◌, ◌+◌, ◌≤◌, ◌++◌, ◌∷◌, length, OnOk, IfOk};
+ghost use Rattle.std.specs.Prelude.{◌≡◌, ◌+◌, ◌≤◌, ◌++◌, [], ◌∷◌, length, OnOk, IfOk};
 ghost use Rattle.run_history.specs.declared.entry.Entry.{Entered};
 ghost use Rattle.open_calls.specs.Rooms.{IsFresh, IsWider, Uses};
 
@@ -52,14 +52,15 @@ impl Part {
         self.log.reserve(notes)
     }
 
-    /// The part of a call that closes goes behind this one, and behind the entering of the call. Its
-    /// log is left over, empty.
+    /// The part of a call that closes goes behind this one, and behind the entering of the call.
+    /// Its log is left over, empty.
     pub(crate) fn join(&mut self, inner: Part, hart: u8, point: PointRef) -> Log
         requires entries { length inner.entries.entries + 1 ≤ self.old.entries.spare }
         requires notes { length inner.log.notes ≤ self.old.log.spare }
         ensures entries { self.new.entries.entries
             ≡ self.old.entries.entries ++ Entered hart point ∷ inner.entries.entries }
         ensures notes { self.new.log.notes ≡ self.old.log.notes ++ inner.log.notes }
+        ensures left { result.notes ≡ [] }
         ensures room { Uses (length inner.entries.entries + 1) (length inner.log.notes)
             self.old self.new }
     {
