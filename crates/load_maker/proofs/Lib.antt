@@ -2,4 +2,3 @@ pub mod Accepted
 pub mod Placed
 pub mod Rows
 pub mod Words
-pub mod WordsLaws

@@ -2,7 +2,7 @@
 use Rattle.std.proofs.Common.{◌≡◌, ℕ, zero, suc, ◌+◌, refl, ap, sym, ◌∙◌, arith}
 use Rattle.rand_pcg.specs.Lcg.{next, next_state, state_after}
 use Rattle.rand_pcg.specs.Pcg.{multiplier_64}
-use Rattle.load_maker.specs.Input.{words_at}
+use Rattle.seed_words.specs.Words.{words_at}
 
 state_last : (w m increment n state : ℕ) → state_after w m increment (suc n) state ≡ next_state w m increment (state_after w m increment n state)
 unfolding state_after
