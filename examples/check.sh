@@ -38,13 +38,22 @@ rescues_of() {
         -e 's/ steps [0-9]*//' -e '/^rescue[s ]/p' -e '/^spent/p' -e '/^end/p' "$1" | LC_ALL=C sort
 }
 
-# Compares what came with the files of the example; $1 is the expected output.
-compare_all() {
+# Compares status and output with what is expected; $1 is the expected output.
+compare_run() {
     echo 0 > "$came/success"
     compare "$came/success" "$came/status" status
     ordered "$1" > "$came/expected"
     ordered "$came/output" > "$came/compared"
     compare "$came/expected" "$came/compared" output
+}
+
+# Compares the report with what stands beside the example.
+compare_report() {
+    if [ -f "$name/report" ]; then compare "$name/report" "$came/report" report; fi
+    if [ -f "$name/rescues" ]; then
+        rescues_of "$came/report" > "$came/rescues"
+        compare "$name/rescues" "$came/rescues" rescues
+    fi
 }
 
 # The example's input of this name, or nothing.
@@ -61,12 +70,19 @@ check() {
     timeout 120 "$rescue" $way $points "$name/$name" < "$(input_of input)" \
         > "$came/output" 2> "$came/report"
     echo $? > "$came/status"
-    compare_all "$name/output"
-    if [ -f "$name/report" ]; then compare "$name/report" "$came/report" report; fi
-    if [ -f "$name/rescues" ]; then
-        rescues_of "$came/report" > "$came/rescues"
-        compare "$name/rescues" "$came/rescues" rescues
-    fi
+    compare_run "$name/output"
+    compare_report
+}
+
+# Runs `workers` with these words, its requests and answers over a port.
+check_over_port() {
+    name=workers way="$1, over a port"
+    # shellcheck disable=SC2086 # words without spaces
+    timeout 120 "$rescue" $1 --points workers/points.toml workers/workers \
+        "workers/input:$came/output" 2> "$came/report"
+    echo $? > "$came/status"
+    compare_run workers/output
+    compare_report
 }
 
 # Runs the example of this name under qemu-riscv64.
@@ -75,7 +91,7 @@ check_without_faults() {
     if [ -f "$name/input-good" ]; then input=input-good output=output-good; fi
     timeout 120 qemu-riscv64 "$name/$name" < "$(input_of $input)" > "$came/output"
     echo $? > "$came/status"
-    compare_all "$name/$output"
+    compare_run "$name/$output"
 }
 
 # Makes a guest that isn't kept here; 1 where it can't be had.
@@ -103,5 +119,7 @@ for example in $examples; do
     done
     if command -v qemu-riscv64 > /dev/null; then check_without_faults "$example"; fi
 done
+check_over_port alone
+check_over_port run
 if [ $differing -eq 0 ]; then echo "as expected: $examples"; fi
 exit $differing
