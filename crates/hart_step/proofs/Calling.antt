@@ -1,5 +1,5 @@
 -- Whether the next act of a hart is a call.
-use Rattle.std.proofs.Common.{◌≡◌, ◌≢◌, ℕ, Bool, true, false, ◌&&◌, List, Option, Some, None, refl, ap, sym, ◌∙◌}
+use Rattle.std.proofs.Common.{◌≡◌, ◌≢◌, ℕ, Bool, true, false, ◌&&◌, List, Some, None, refl, ap, sym, ◌∙◌}
 use Rattle.guest_words.specs.declared.act.Act.{Act}
 use Rattle.guest_words.specs.declared.class.Class.TheVariants as class
 use Rattle.guest_words.specs.declared.hart.Hart.{Hart}

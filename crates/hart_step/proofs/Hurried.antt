@@ -1,12 +1,10 @@
 -- What instructions in a row leave of the executable state.
-use Rattle.std.proofs.Common.{◌≡◌, ◌≢◌, ℕ, zero, suc, ◌+◌, ◌-◌, ◌<◌, ◌≤◌, Bool, true, false, List, length, get_or, set, map, slice_get, Option, Some, None, option_map, refl, ap, sym, ◌∙◌, subst, arith, inl, inr, length-set, get_or-set_other, if◌then◌else◌}
-use Rattle.std.proofs.lemmas.Bool.Decides.{eqb_tells}
+use Rattle.std.proofs.Common.{◌≡◌, ◌≢◌, ℕ, zero, suc, ◌+◌, ◌-◌, ◌<◌, ◌≤◌, Bool, true, false, List, length, get_or, set, map, slice_get, Some, None, option_map, refl, ap, sym, ◌∙◌, subst, arith, length-set, get_or-set_other, if◌then◌else◌}
 use Rattle.std.proofs.lemmas.List.{map-set}
 use Rattle.std.proofs.lemmas.Option.{get_or_from_slice_get, slice_get-map}
 use Rattle.guest_words.specs.declared.act.Act.{Act}
 use Rattle.guest_words.specs.declared.act.Act.TheVariants as act
 use Rattle.guest_words.specs.declared.hart.Hart.{Hart}
-use Rattle.guest_words.specs.declared.hart.HartState.{HartState}
 use Rattle.guest_words.specs.declared.hart.HartState.TheVariants.{Waiting}
 use Rattle.guest_words.specs.declared.hart.Slot.{Slot}
 use Rattle.guest_words.specs.declared.hart.Waiter.{Waiter}
@@ -22,7 +20,7 @@ use Rattle.guest_memory.specs.Kept.{AddressSpace}
 use Rattle.guest_memory.proofs.Ranges.{free_after_number}
 use Rattle.hart_slots.specs.Rejoined.{hart_of}
 use Rattle.run_history.specs.Legal.{is_ready_at, is_ready_slot}
-use Rattle.hart_step.specs.InARow.{Lone, act_at, after_act, after_acts, lone}
+use Rattle.hart_step.specs.InARow.{Lone, act_at, after_acts, lone}
 use Rattle.hart_step.specs.InPlace.{memory_after}
 use Rattle.hart_step.specs.Legs.{HasRun, IsLeg}
 use Rattle.hart_step.specs.Live.{IsHeapClear, Waits, WaitsAt}

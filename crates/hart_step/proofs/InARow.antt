@@ -1,5 +1,5 @@
 -- Acts in a row, one more.
-use Rattle.std.proofs.Common.{◌≡◌, ℕ, suc, ◌+◌, Bool, true, false, not, ◌&&◌, List, refl, sym, ap, ◌∙◌, arith, Option, Some, None}
+use Rattle.std.proofs.Common.{◌≡◌, ℕ, suc, ◌+◌, Bool, true, false, not, ◌&&◌, List, refl, sym, ap, ◌∙◌, arith, Option}
 use Rattle.guest_words.specs.declared.point.Point.{Point}
 use Rattle.guest_words.specs.declared.hart.Frame.{Frame}
 use Rattle.hart_step.specs.InARow.{Lone, act_at, after_act, is_next, after_acts, all_go, closes, stays_open}

@@ -1,5 +1,5 @@
 -- Parts of a row of acts.
-use Rattle.std.proofs.Common.{◌≡◌, ◌≢◌, ℕ, ◌+◌, ◌-◌, ◌<◌, ◌≤◌, Bool, true, false, not, ◌&&◌, ◌||◌, length, slice_get, Option, Some, None, refl, ap, sym, ◌∙◌, subst, arith, inl, inr}
+use Rattle.std.proofs.Common.{◌≡◌, ℕ, ◌+◌, ◌-◌, ◌<◌, ◌≤◌, Bool, true, false, not, length, slice_get, Option, Some, None, refl, ap, sym, ◌∙◌, subst, arith, inl, inr}
 use Rattle.std.proofs.lemmas.Bool.{and_from, or_parts}
 use Rattle.std.proofs.lemmas.Bool.Decides.{leb_tells}
 use Rattle.std.proofs.lemmas.Option.{slice_get_within}
@@ -8,7 +8,7 @@ use Rattle.guest_words.specs.Act.{StateAct, Ordinary, Fault, Request, Arrival, E
 use Rattle.guest_words.specs.Endings.{is_budget_spent}
 use Rattle.guest_words.specs.State.{State, frames_at}
 use Rattle.run_history.specs.After.{next, ran}
-use Rattle.run_history.specs.Legal.{can_go, is_ordinary, is_ready_at, is_ready_slot}
+use Rattle.run_history.specs.Legal.{is_ordinary, is_ready_at, is_ready_slot}
 use Rattle.run_history.proofs.FewerFrames.{next_fewer}
 use Rattle.run_history.proofs.RunSteps.{can_run-both, can_run-none, can_run-one, ran-both, ran-none, ran-one}
 use Rattle.hart_step.specs.declared.next_act.NextAct.{NextAct}

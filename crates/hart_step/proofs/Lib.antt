@@ -19,3 +19,4 @@ pub mod Waiting
 pub mod Engines
 pub mod Replies
 pub mod SlotActs
+pub mod Stretching

@@ -1,9 +1,9 @@
 -- Instructions of a hart in a row, as acts in a state.
-use Rattle.std.proofs.Common.{◌≡◌, ◌≢◌, ℕ, zero, suc, ◌+◌, ◌-◌, ◌<◌, ◌≤◌, Bool, true, false, not, ◌&&◌, ◌||◌, ◌==◌, nat_lt, List, [], ◌∷◌, length, get_or, set, map, slice_get, slice_index_or, if◌then◌else◌, Option, Some, None, option_map, refl, ap, sym, ◌∙◌, subst, arith, inl, inr, length-set}
+use Rattle.std.proofs.Common.{◌≡◌, ◌≢◌, ℕ, zero, suc, ◌+◌, ◌-◌, ◌<◌, ◌≤◌, Bool, true, false, not, ◌==◌, List, [], ◌∷◌, length, get_or, set, map, slice_get, if◌then◌else◌, Option, Some, None, refl, ap, sym, ◌∙◌, subst, arith}
 use Rattle.std.proofs.lemmas.Bool.{and_from, and_parts, or_from, or_parts}
-use Rattle.std.proofs.lemmas.Bool.Decides.{eqb_tells, nat_tests}
+use Rattle.std.proofs.lemmas.Bool.Decides.{nat_tests}
 use Rattle.std.proofs.lemmas.List.{get_or-map, length-map, set-get_or}
-use Rattle.std.proofs.lemmas.Option.{get_or_from_slice_get, slice_get_within}
+use Rattle.std.proofs.lemmas.Option.{get_or_from_slice_get}
 use Rattle.guest_words.specs.declared.act.Act.{Act}
 use Rattle.guest_words.specs.declared.act.Act.TheVariants as act
 use Rattle.guest_words.specs.declared.act.Write.{Write}
@@ -12,31 +12,28 @@ use Rattle.guest_words.specs.declared.hart.Hart.{Hart}
 use Rattle.guest_words.specs.declared.hart.Reserved.{Reserved}
 use Rattle.guest_words.specs.declared.hart.Slot.{Slot}
 use Rattle.guest_words.specs.declared.point.Point.{Point}
-use Rattle.guest_words.specs.Act.{StateAct, Ordinary, act_of, act_of_slot, in_state, ordinary, written}
+use Rattle.guest_words.specs.Act.{Ordinary, act_of, act_of_slot, in_state, written}
 use Rattle.guest_words.specs.Endings.{is_budget_spent}
 use Rattle.guest_words.specs.HartAct.{hart_act}
 use Rattle.guest_words.specs.Harts.{close_frames, is_over, is_ready, kept_below, kept_reservation, touched}
 use Rattle.guest_words.specs.Space.{Space, low_bytes, with_bytes}
-use Rattle.guest_words.specs.State.{State, changed, changed_by, closed, frame_count, frames_at, on_each, on_hart, stored, with_closed, with_hart}
+use Rattle.guest_words.specs.State.{State, changed, changed_by, closed, frame_count, frames_at, on_each, on_hart, with_closed, with_hart}
 use Rattle.guest_words.specs.Widths.{bytes_in}
 use Rattle.guest_atomics.specs.Free.{IsFreeBut}
-use Rattle.guest_memory.specs.Kept.{AddressSpace}
 use Rattle.guest_pages.proofs.Lows.{length-low_bytes}
-use Rattle.hart_slots.specs.Rejoined.{hart_of, last_of, top_of}
-use Rattle.run_history.specs.After.{counted, next, ran}
+use Rattle.hart_slots.specs.Rejoined.{hart_of, last_of}
+use Rattle.run_history.specs.After.{next, ran}
 use Rattle.run_history.specs.Legal.{can_go, can_run, is_ordinary, is_ready_slot}
 use Rattle.run_history.proofs.InstCases.{InstCases, hart_act_by}
 use Rattle.run_history.proofs.RunSteps.{can_run-more, can_run-none, next-ordinary, ran-more, ran-none}
-use Rattle.run_history.proofs.Slots.{changed-get}
-use Rattle.hart_step.specs.InARow.{Lone, act_at, after_act, after_acts, all_go, closes, is_next, lone, stays_open, IsClosed, IsRow}
-use Rattle.hart_step.specs.InPlace.{hart_after, memory_after, touched_by, written_by}
-use Rattle.hart_step.specs.Legs.{with_hart_at, IsLeg}
-use Rattle.hart_step.specs.Live.{with_space}
+use Rattle.hart_step.specs.InARow.{Lone, act_at, after_act, after_acts, all_go, closes, is_next, lone, stays_open, IsRow}
+use Rattle.hart_step.specs.InPlace.{hart_after, touched_by, written_by}
+use Rattle.hart_step.specs.Legs.{IsLeg}
 use Rattle.hart_step.specs.Stops.{act_wants, slot_wants, wants_memory, IsPlainRow}
 
 -- slots with one of them replaced
 
-set_set : {A : Type 0} (xs : List A) (h : ℕ) (x y : A) → set (set xs h x) h y ≡ set xs h y
+pub set_set : {A : Type 0} (xs : List A) (h : ℕ) (x y : A) → set (set xs h x) h y ≡ set xs h y
 set_set [] h x y = refl
 set_set (z ∷ xs) zero x y = refl
 set_set (z ∷ xs) (suc h) x y = ap (λ ys. z ∷ ys) (set_set xs h x y)
@@ -46,7 +43,7 @@ set_get [] h x z is = cc
 set_get (y ∷ xs) zero x z is = refl
 set_get (y ∷ xs) (suc h) x z is = set_get xs h x z is
 
-set_same : {A : Type 0} (xs : List A) (h : ℕ) (x : A) → slice_get xs h ≡ Some x → set xs h x ≡ xs
+pub set_same : {A : Type 0} (xs : List A) (h : ℕ) (x : A) → slice_get xs h ≡ Some x → set xs h x ≡ xs
 set_same xs h x is = ap (set xs h) (sym (get_or_from_slice_get xs h x x is)) ∙ set-get_or xs h x
 
 pub changed_is : (f : Slot → Slot) (h : ℕ) (slots : List Slot) (slot : Slot) → slice_get slots h ≡ Some slot → changed f h slots ≡ set slots h (f slot)

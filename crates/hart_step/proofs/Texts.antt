@@ -1,24 +1,22 @@
 -- A text has the instructions of the memory that it was made of.
-use Rattle.std.proofs.Common.{◌≡◌, ℕ, zero, suc, ◌+◌, ◌-◌, ◌*◌, ◌/◌, ◌%◌, ◌^◌, ◌<◌, ◌≤◌, ◌==◌, ◌&&◌, ◌||◌, inl, inr, not, cond, nat_le, Bool, true, false, if◌then◌else◌, List, [], ◌∷◌, ◌++◌, length, slice_index_or, find, option_map, unwrap_or, Option, Some, None, Err, refl, sym, ap, ◌∙◌, subst, arith, IfSome}
+use Rattle.std.proofs.Common.{◌≡◌, ℕ, zero, suc, ◌+◌, ◌-◌, ◌*◌, ◌/◌, ◌%◌, ◌^◌, ◌<◌, ◌≤◌, ◌==◌, ◌&&◌, ◌||◌, inl, inr, not, cond, nat_le, Bool, true, false, if◌then◌else◌, List, [], ◌∷◌, ◌++◌, length, slice_index_or, find, option_map, unwrap_or, is_some, Option, Some, None, Err, refl, sym, ap, ◌∙◌, arith, IfSome}
 use Rattle.std.proofs.Math.ListN.{get_or-append}
 use Rattle.std.proofs.Math.Seq.{get_or-append_seam}
-use Rattle.std.proofs.lemmas.Bool.{and_from, cases_lt, le-leb, leb-true, lt-ltb, ltb-true}
+use Rattle.std.proofs.lemmas.Bool.{and_from, le-leb, leb-true, lt-ltb, ltb-true}
 use Rattle.std.proofs.lemmas.Bool.Decides.{eqb_tells}
 use Rattle.std.specs.List.{All, list_all, list_any, range_with_len}
 use Rattle.std.specs.FinMap.{get}
 use Rattle.guest_words.specs.declared.fault.FaultName.{FaultName}
 use Rattle.guest_words.specs.declared.fault.FaultName.TheVariants.{FetchMisaligned, FetchRights}
-use Rattle.guest_words.specs.declared.image.Load.{Load}
+use Rattle.guest_words.specs.declared.image.Cell.{Cell}
+use Rattle.guest_words.specs.declared.image.Rights.{Rights}
 use Rattle.guest_words.specs.declared.inst.Inst.{Inst}
 use Rattle.guest_words.specs.Instructions.{NamesRegisters, instruction_of}
 use Rattle.guest_words.specs.Space.{Space, can_execute, each_has, has_right, number_at}
-use Rattle.guest_words.specs.Start.{is_in_pages, is_in_stack, loaded_cell, memory_of, stack_cell}
 use Rattle.guest_words.specs.HartAct.{inst_at}
-use Rattle.guest_words.proofs.PageLaws.{contains-range}
-use Rattle.guest_words.proofs.StartMemory.{get-memory_of, get-memory_of_past}
 use Rattle.run_history.proofs.Ands.{and_left, and_right}
 use Rattle.hart_step.specs.Looked.{decoded, looked}
-use Rattle.hart_step.specs.Registers.{Stretch, HasLoad, IsTextOf, Tells, inst_in, inst_of, is_in}
+use Rattle.hart_step.specs.Registers.{Stretch, IsTextOf, Tells, inst_in, inst_of, is_in}
 use Rattle.hart_step.proofs.Acting.{registers-inst_at}
 
 -- what is found names registers
@@ -74,16 +72,10 @@ insts-push m from k insts found long is so_far j below = elim (eqb_tells j k) [
       get_or-append insts (found ∷ []) None j (omega (arith, less, long)) ∙ so_far j less
 ]
 
--- the words in the pages of a load
-pub is_in-pages : (load : Load) (stretch : Stretch) (pc : ℕ) → 0 < load.size → stretch.from ≡ load.address / 4096 * 4096
-    → length stretch.insts ≡ ((load.address + load.size - 1) / 4096 + 1 - load.address / 4096) * (4096 / 4)
-    → is_in_pages pc load ≡ true → is_in pc stretch ≡ true
-is_in-pages load stretch pc some from long is =
-    let first = load.address / 4096 in
-    let count = (load.address + load.size - 1) / 4096 + 1 - first in
-    let within = (contains-range first count (pc / 4096)).0 is in
-    let low : stretch.from ≤ pc = omega (arith, from, within) in
-    let high : (pc - stretch.from) / 4 < length stretch.insts = omega (arith, from, long, within) in
+-- the words from an address of a page up to another
+pub is_in-range : (stretch : Stretch) (end pc : ℕ) → stretch.from % 4096 ≡ 0 → end % 4096 ≡ 0 → length stretch.insts ≡ (end - stretch.from) / 4 → stretch.from ≤ pc → pc < end → is_in pc stretch ≡ true
+is_in-range stretch end pc first last long low less =
+    let high : (pc - stretch.from) / 4 < length stretch.insts = omega (arith, first, last, long, low, less) in
     and_from _ _ (le-leb stretch.from pc low) (lt-ltb ((pc - stretch.from) / 4) (length stretch.insts) high)
 
 -- a stretch that tells a memory's instructions tells the one at an address that it has
@@ -121,36 +113,6 @@ out_text (stretch ∷ rest) pc is = by (is_in pc stretch) is (out_text rest pc)
     by true e later = absurd (cc)
     by false e later = later e
 
-found : (text : List Stretch) (loads : List Load) (pc : ℕ) (load : Load) → All (HasLoad text) loads → find (is_in_pages pc) loads ≡ Some load
-    → HasLoad text load × (is_in_pages pc load ≡ true)
-found text [] pc load all is = absurd (cc)
-found text (first ∷ rest) pc load all is = by (is_in_pages pc first) refl is (found text rest pc load (λ k d less. all (suc k) d (omega (arith, less))))
-  where
-    by : (b : Bool) → is_in_pages pc first ≡ b → cond b (Some first) (find (is_in_pages pc) rest) ≡ Some load
-        → (find (is_in_pages pc) rest ≡ Some load → HasLoad text load × (is_in_pages pc load ≡ true)) → HasLoad text load × (is_in_pages pc load ≡ true)
-    by true here e later = let same : first ≡ load = cc in subst (λ (x : Load). HasLoad text x × (is_in_pages pc x ≡ true)) same (all 0 first (omega arith), here)
-    by false here e later = later e
-
--- nothing is executed where no load brings it
-bare : (text : List Stretch) (loads : List Load) (pc : ℕ) → All (HasLoad text) loads → list_any (is_in pc) text ≡ false
-    → has_right (λ rights. rights.exec) (get (memory_of loads) pc) ≡ false
-bare text loads pc all out = elim (cases_lt pc 0x4000000000) [
-  | inl below ↦ ap (has_right (λ rights. rights.exec)) (get-memory_of loads pc below) ∙ by_stack (is_in_stack pc)
-  | inr past ↦ ap (has_right (λ rights. rights.exec)) (get-memory_of_past loads pc past)
-]
-  where
-    by_load : (o : Option Load) → find (is_in_pages pc) loads ≡ o → has_right (λ rights. rights.exec) (loaded_cell loads pc o) ≡ false
-    by_load None is = refl
-    by_load (Some load) is = by_exec load.rights.exec refl
-      where
-        by_exec : (b : Bool) → load.rights.exec ≡ b → b ≡ false
-        by_exec true exec = let has = found text loads pc load all is in absurd (cc (sym out ∙ has.0 exec pc has.1))
-        by_exec false exec = refl
-
-    by_stack : (b : Bool) → has_right (λ rights. rights.exec) (if b then Some stack_cell else loaded_cell loads pc (find (is_in_pages pc) loads)) ≡ false
-    by_stack true = refl
-    by_stack false = by_load (find (is_in_pages pc) loads) refl
-
 none_at : (m : Space) (pc : ℕ) → has_right (λ rights. rights.exec) (get m pc) ≡ false → inst_at m pc ≡ None
 unfolding each_has
 none_at m pc bare = by (pc % 4 == 0) (nat_le (pc + 4) (2 ^ 64)) (has_right (λ rights. rights.exec) (get m pc)) bare
@@ -162,17 +124,25 @@ none_at m pc bare = by (pc % 4 == 0) (nat_le (pc + 4) (2 ^ 64)) (has_right (λ r
     by true true true is = absurd (cc)
     by true true false is = refl
 
-pub text_is : (text : List Stretch) (loads : List Load) → All (Tells (memory_of loads)) text → All (HasLoad text) loads → IsTextOf text (memory_of loads)
-text_is text loads tells all pc = by (list_any (is_in pc) text) refl
+-- each byte that may be executed lies in the text
+abbrev pub HasText : List Stretch → Space → Type 0
+HasText text m = (pc : ℕ) → has_right (λ rights. rights.exec) (get m pc) ≡ true → list_any (is_in pc) text ≡ true
+
+bare : (text : List Stretch) (m : Space) (pc : ℕ) → HasText text m → list_any (is_in pc) text ≡ false → has_right (λ rights. rights.exec) (get m pc) ≡ false
+bare text m pc has out = by (has_right (λ rights. rights.exec) (get m pc)) refl
   where
-    by : (b : Bool) → list_any (is_in pc) text ≡ b → inst_in text pc ≡ inst_at (memory_of loads) pc
-    by true in_it = in_text (memory_of loads) text pc tells in_it
-    by false out = out_text text pc out ∙ sym (none_at (memory_of loads) pc (bare text loads pc all out))
+    by : (b : Bool) → has_right (λ rights. rights.exec) (get m pc) ≡ b → b ≡ false
+    by true may = let there : list_any (is_in pc) text ≡ true = has pc may in cc
+    by false may = refl
 
-pub text_from : (words : List Stretch) (loads items : List Load) (m : Space) → m ≡ memory_of loads → items ≡ loads → All (Tells m) words → All (HasLoad words) items
-    → IsTextOf words (memory_of loads)
-text_from words loads items m is same tells all =
-    text_is words loads (subst (λ n. All (Tells n) words) is tells) (subst (λ ls. All (HasLoad words) ls) same all)
+pub text_is : (text : List Stretch) (m : Space) → All (Tells m) text → HasText text m → IsTextOf text m
+text_is text m tells has pc = by (list_any (is_in pc) text) refl
+  where
+    by : (b : Bool) → list_any (is_in pc) text ≡ b → inst_in text pc ≡ inst_at m pc
+    by true in_it = in_text m text pc tells in_it
+    by false out = out_text text pc out ∙ sym (none_at m pc (bare text m pc has out))
 
-pub multiple : (n : ℕ) → n * 4096 % 4 ≡ 0
-multiple n = omega arith
+-- a byte with a right lies in a page
+pub has_cell : (right : Rights → Bool) (cell : Option Cell) → has_right right cell ≡ true → is_some cell ≡ true
+has_cell right None is = cc
+has_cell right (Some cell) is = refl

@@ -14,3 +14,4 @@ pub mod DeviceAnswers
 pub mod Legs
 pub mod SlotActs
 pub mod Stretches
+pub mod TextPages

@@ -1,5 +1,5 @@
 -- Register acts: those that look at the text and at one hart alone.
-use Rattle.std.specs.Prelude.{◌≡◌, ℕ, zero, suc, Bool, ◌+◌, ◌-◌, ◌*◌, ◌/◌, ◌%◌, ◌==◌, ◌&&◌, ◌<◌, true, nat_le, nat_lt, if◌then◌else◌, List, length, slice_index_or, find, option_map, unwrap_or, Option, Some, None}
+use Rattle.std.specs.Prelude.{◌≡◌, ℕ, zero, suc, Bool, ◌+◌, ◌-◌, ◌*◌, ◌/◌, ◌%◌, ◌==◌, ◌&&◌, ◌<◌, nat_le, nat_lt, if◌then◌else◌, List, length, slice_index_or, find, option_map, unwrap_or, Option, Some, None}
 use Rattle.guest_words.specs.declared.act.Act.{Act}
 use Rattle.guest_words.specs.declared.act.Act.TheVariants.{Next}
 use Rattle.guest_words.specs.declared.class.Class.{Class}
@@ -8,9 +8,6 @@ use Rattle.guest_words.specs.declared.hart.Hart.{Hart}
 use Rattle.guest_words.specs.declared.inst.Inst.{Inst}
 use Rattle.guest_words.specs.declared.point.Point.{Point}
 use Rattle.guest_words.specs.declared.point.PointRef.{PointRef}
-use Rattle.std.specs.List.{list_any}
-use Rattle.guest_words.specs.declared.image.Load.{Load}
-use Rattle.guest_words.specs.Start.{is_in_pages}
 use Rattle.guest_words.specs.Effects.{class_of}
 use Rattle.guest_words.specs.HartAct.{arrival_of, branch_act, inst_at, jump_act, register_act}
 use Rattle.guest_words.specs.Harts.{past}
@@ -49,19 +46,6 @@ pub record Tells (m : Space) (stretch : Stretch) : Type 0 where
       (k : ℕ)
       → k < length stretch.insts
       → slice_index_or stretch.insts k None ≡ inst_at m (stretch.from + 4 * k)
-
--- a stretch has the instructions in the pages of a load
-pub record TellsLoad (m : Space) (load : Load) (stretch : Stretch) : Type 0 where
-  pub tells : Tells m stretch
-  pub whole : (pc : ℕ) → is_in_pages pc load ≡ true → is_in pc stretch ≡ true
-
--- a text has the instructions in the pages of a load that may be executed
-abbrev pub HasLoad : List Stretch → Load → Type 0
-HasLoad text load =
-    load.rights.exec ≡ true
-    → (pc : ℕ)
-    → is_in_pages pc load ≡ true
-    → list_any (is_in pc) text ≡ true
 
 -- the hart after an act that stores nothing
 abbrev pub gone_on : Act → Option Hart

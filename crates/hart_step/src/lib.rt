@@ -34,6 +34,7 @@ mod serving;
 mod step;
 mod stretches;
 mod text;
+mod text_pages;
 mod wants;
 
 pub use deciding::decide;

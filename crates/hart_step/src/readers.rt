@@ -102,10 +102,13 @@ impl Engine {
 
     /// How many steps may still be made; 0 where the records have passed their limit of bytes.
     pub fn steps_left(&self) -> u64
-        requires not_yet { ⊥ }
         ensures value { result ≡ steps_left self.now.state }
     {
-        unreachable!()
+        if self.bytes > RECORD_BYTES {
+            0
+        } else {
+            self.budget - self.steps
+        }
     }
 
     /// The number of ports.

@@ -1,10 +1,10 @@
 ghost use Rattle.std.specs.Prelude.{◌≡◌, ◌<◌, ◌≤◌, true, false, Some, None};
+ghost use Rattle.guest_words.specs.declared.hart.Hart.{Hart};
 ghost use Rattle.guest_words.specs.Effects.{class_of};
 ghost use Rattle.guest_words.specs.Instructions.{NamesRegisters};
-ghost use Rattle.hart_step.specs.InPlace.{HasZero};
-ghost use Rattle.guest_words.specs.declared.hart.Hart.{Hart};
 ghost use Rattle.run_history.specs.After.{ran};
 ghost use Rattle.run_history.specs.Legal.{can_run};
+ghost use Rattle.hart_step.specs.InPlace.{HasZero};
 ghost use Rattle.hart_step.specs.Registers.{after_class, register_next, registers};
 ghost use Rattle.hart_step.specs.Stretches.{IsStretch};
 
@@ -83,16 +83,17 @@ fn carry_out(hart: &mut Hart, inst: &Inst) -> bool
 }
 
 impl Engine {
-    /// Register acts of a ready hart that were made beside the run become acts of it: the hart after
-    /// them stands in its slot, and their steps are counted. Makes no act again, and takes no memory.
+    /// Register acts of a ready hart that were made beside the run become acts of it: the hart
+    /// after them stands in its slot, and their steps are counted. Makes no act again, and takes
+    /// no memory.
     pub fn stretch(&mut self, hart: u8, after: Hart, count: u32)
-        requires not_yet { ⊥ }
         requires some { 1 ≤ count }
         requires stretch { (base : Hart) × IsStretch self.old.state hart base after count }
         ensures state { self.new.state ≡ ran self.old.state hart count }
         ensures goes { can_run self.old.state hart count ≡ true }
         ensures spare { self.new.spare ≡ self.old.spare }
     {
-        unreachable!()
+        self.slots.put(hart, after);
+        self.steps += u64::from(count);
     }
 }

@@ -1,17 +1,19 @@
-ghost use Rattle.std.specs.Prelude.{◌≡◌, ℕ, ◌+◌, ◌*◌, ◌^◌, ◌<◌, length, slice_index_or, None, IfOk, IfSome, OnOk};
-ghost use Rattle.guest_words.specs.declared.image.Load.{Load};
-ghost use Rattle.std.specs.List.{All};
+ghost use Rattle.std.specs.Prelude.{◌≡◌, ℕ, ◌+◌, ◌*◌, ◌%◌, ◌^◌, ◌<◌, ◌≤◌, true, length, slice_index_or, None, IfOk, IfSome};
+ghost use Rattle.std.specs.FinMap as map;
+ghost use Rattle.std.specs.List.{All, list_any};
 ghost use Rattle.guest_words.specs.HartAct;
-ghost use Rattle.guest_words.specs.Image.{IsLoad, IsLoadList};
+ghost use Rattle.guest_words.specs.Image.{IsLoadList};
 ghost use Rattle.guest_words.specs.Instructions.{NamesRegisters};
+ghost use Rattle.guest_words.specs.Space.{has_right};
 ghost use Rattle.guest_words.specs.Start.{memory_of};
-ghost use Rattle.hart_step.specs.Registers.{inst_in, inst_of, is_in, HasLoad, IsTextOf, Tells, TellsLoad};
+ghost use Rattle.hart_step.specs.Registers.{inst_in, inst_of, is_in, IsTextOf, Tells};
 
 use crate::engine::Engine;
 use crate::look::look;
+use crate::text_pages::{text_end, text_from};
 use guest_memory::Memory;
 use guest_words::limits::PAGE;
-use guest_words::{Image, Inst, Load, MemoryWant};
+use guest_words::{Image, Inst, MemoryWant};
 use std::alloc::Global;
 use std::marker::Model;
 
@@ -31,15 +33,18 @@ impl Model for Words {
 }
 
 impl Words {
-    // The words in the pages of a load.
-    fn of(alloc: Global, memory: &Memory, load: &Load) -> Result<Words, MemoryWant>
-        requires load { IsLoad load.now }
-        ensures ok { IfOk result (λ words. TellsLoad memory.now.space load.now words) }
+    // The words from where a page begins up to where another does.
+    fn of(alloc: Global, memory: &Memory, from: u64, end: u64) -> Result<Words, MemoryWant>
+        requires from { from % PAGE ≡ 0 }
+        requires end { end % PAGE ≡ 0 }
+        requires upto { from ≤ end }
+        ensures tells { IfOk result (Tells memory.now.space) }
+        ensures whole { IfOk result (λ words. (pc : ℕ)
+            → from ≤ pc
+            → pc < end
+            → is_in pc words ≡ true) }
     {
-        let first = load.address / PAGE;
-        let last = (load.address + load.size - 1) / PAGE;
-        let from = first * PAGE;
-        let insts = insts_from(alloc, memory, from, (last + 1 - first) * (PAGE / 4))?;
+        let insts = insts_from(alloc, memory, from, (end - from) / 4)?;
         Ok(Words { from, insts })
     }
 
@@ -93,41 +98,24 @@ pub(crate) fn inst_at(memory: &Memory, pc: u64) -> Option<Inst>
     }
 }
 
-// The words of all loads that may be executed.
-fn words_of(alloc: Global, memory: &Memory, loads: &[Load]) -> Result<Vec<Words>, MemoryWant>
-    requires loads { All IsLoad loads.now }
+// The words of all pages that may be executed, those of pages side by side as one.
+fn words_in(alloc: Global, memory: &Memory) -> Result<Vec<Words>, MemoryWant>
     ensures tells { IfOk result (λ words. All (Tells memory.now.space) words.items) }
-    ensures has { IfOk result (λ words. All (HasLoad words.items) loads.now) }
+    ensures has { IfOk result (λ words. (pc : ℕ)
+        → has_right (λ rights. rights.exec) (map.get memory.now.space pc) ≡ true
+        → list_any (is_in pc) words.items ≡ true) }
 {
     let mut words = Vec::new(alloc);
-    for load in loads {
-        add_words(alloc, memory, &mut words, load)?;
+    let mut at = 0;
+    while let Some(from) = text_from(memory, at) {
+        let end = text_end(memory, from);
+        words.push(Words::of(alloc, memory, from, end)?)?;
+        at = end;
     }
     Ok(words)
 }
 
-// Adds the words of a load, where they may be executed.
-fn add_words(
-    alloc: Global,
-    memory: &Memory,
-    words: &mut Vec<Words>,
-    load: &Load,
-) -> Result<(), MemoryWant>
-    requires load { IsLoad load.now }
-    requires tells { All (Tells memory.now.space) words.old.items }
-    ensures tells { OnOk result (All (Tells memory.now.space) words.new.items) }
-    ensures has { OnOk result (HasLoad words.new.items load.now) }
-    ensures keeps { OnOk result ((other : Load)
-        → HasLoad words.old.items other
-        → HasLoad words.new.items other) }
-{
-    if load.rights.exec {
-        words.push(Words::of(alloc, memory, load)?)?;
-    }
-    Ok(())
-}
-
-/// The instructions of an image, which no act ever changes.
+/// The instructions of a run, which no act ever changes.
 #[derive(Drop)]
 pub struct Text {
     words: Vec<Words>,
@@ -152,7 +140,14 @@ impl Text {
         ensures ok { IfOk result (λ text. IsTextOf text (memory_of image.now.loads)) }
     {
         let memory = Memory::of(alloc, image)?;
-        let words = words_of(alloc, &memory, image.loads.items())?;
+        Text::in_memory(alloc, &memory)
+    }
+
+    // The instructions in the executable pages of memory.
+    fn in_memory(alloc: Global, memory: &Memory) -> Result<Text, MemoryWant>
+        ensures ok { IfOk result (λ text. IsTextOf text memory.now.space) }
+    {
+        let words = words_in(alloc, memory)?;
         Ok(Text { words })
     }
 
@@ -182,9 +177,8 @@ impl Engine {
     /// The instructions in the executable pages of a running machine: what can be fetched at each
     /// address.
     pub fn text(&self, alloc: Global) -> Result<Text, MemoryWant>
-        requires not_yet { ⊥ }
         ensures ok { IfOk result (λ text. IsTextOf text self.now.state.memory) }
     {
-        unreachable!()
+        Text::in_memory(alloc, self.memory())
     }
 }

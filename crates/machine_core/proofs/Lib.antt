@@ -11,3 +11,5 @@ pub mod Steps
 pub mod Told
 pub mod Turning
 pub mod Begins
+pub mod Appending
+pub mod Stretching

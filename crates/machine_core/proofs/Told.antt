@@ -1,9 +1,10 @@
 -- What holds of each machine with no call open, and of its start.
-use Rattle.std.proofs.Common.{◌≡◌, ℕ, ◌≤◌, List, [], ◌++◌, length, refl, ap, sym, ◌∙◌, subst, arith}
+use Rattle.std.proofs.Common.{◌≡◌, ℕ, ◌≤◌, List, [], ◌++◌, length, ap, sym, ◌∙◌, subst, arith}
 use Rattle.guest_words.specs.declared.limits.TheConstants.{BUDGET}
 use Rattle.guest_words.specs.declared.image.Image.{Image}
 use Rattle.guest_words.specs.declared.point.Point.{Point}
 use Rattle.guest_words.specs.declared.record.Record.{Record}
+use Rattle.guest_words.specs.Image.{IsLoadList}
 use Rattle.guest_words.specs.Start.{start_of}
 use Rattle.guest_words.specs.State.{State}
 use Rattle.edge_ports.specs.Seen.{Seen}
@@ -16,13 +17,15 @@ use Rattle.run_history.proofs.Kept.{records_after_all}
 use Rattle.run_history.proofs.Quietness.{start_quiet}
 use Rattle.run_history.proofs.Staying.{state_after_stays}
 use Rattle.open_calls.specs.Nest.{flat, flat_from}
+use Rattle.text_laws.specs.Texts.{IsTextSafe}
+use Rattle.text_laws.proofs.Start.{start_is_text_safe}
 use Rattle.machine_core.specs.Inner.{Holds, Inner, machine_in, whole_in}
 use Rattle.machine_core.specs.Machine.{AllOpen, IsAsTold, IsStart}
 use Rattle.machine_core.proofs.Holding.{run_so_far, within}
 
-pub is_start : (start : State) (told : Seen) (image : Image) (points : List Point) (harts ports budget : ℕ) → start ≡ start_of image points harts ports budget
+pub is_start : (start : State) (told : Seen) (image : Image) (points : List Point) (harts ports budget : ℕ) → start ≡ start_of image points harts ports budget → IsLoadList image.loads
     → ports ≡ length told.ports → budget ≤ BUDGET → AllOpen told → IsStart start told
-is_start start told image points harts ports budget is count within none = record {
+is_start start told image points harts ports budget is loads count within none = record {
   records = ap (λ (s : State). s.records) is;
   ending = ap (λ (s : State). s.ending) is;
   quiet = ap is_quiet is ∙ start_quiet image points harts ports budget;
@@ -30,6 +33,7 @@ is_start start told image points harts ports budget is count within none = recor
   steps = subst (λ (s : State). s.steps ≤ s.budget) (sym is) (omega arith);
   budget = subst (λ (s : State). s.budget ≤ BUDGET) (sym is) within;
   devices = none;
+  text = subst IsTextSafe (sym is) (start_is_text_safe image points harts ports budget loads);
 }
 
 -- with no call open the history is the whole one

@@ -1,8 +1,7 @@
 -- What a commit of a stretch answers.
-use Rattle.std.specs.Prelude.{◌≡◌, ◌≢◌, ℕ, ◌+◌, ◌<◌, ◌≤◌, List, Option, Some, option_map, slice_get, slice_set}
+use Rattle.std.specs.Prelude.{◌≡◌, ◌≢◌, ℕ, ◌+◌, ◌<◌, ◌≤◌, List, Option, Some, option_map, slice_get}
 use Rattle.guest_words.specs.declared.hart.Hart.{Hart}
-use Rattle.guest_words.specs.Start.{slot_of}
-use Rattle.guest_words.specs.State.{State}
+use Rattle.guest_words.specs.State.{State, with_hart}
 use Rattle.hart_slots.specs.Rejoined.{hart_of}
 use Rattle.hart_step.specs.Registers.{IsTextOf, Stretch, registers}
 use Rattle.hart_step.specs.Stretches.{steps_left}
@@ -23,10 +22,10 @@ pub record IsStretchFrom (start : State) (base after : Hart) (count : ℕ) : Typ
   pub tells : IsTextOf text start.memory
   pub made : registers text start.points base count ≡ Some after
 
--- a hart without frames, and so many steps more, and nothing else is changed
+-- the state with another hart in a slot, and so many steps more
 abbrev pub stretched : State → ℕ → Hart → ℕ → State
 stretched s h hart count =
-    record s { slots = slice_set s.slots h (slot_of hart); steps = s.steps + count }
+    record (with_hart s h (λ before. hart)) { steps = s.steps + count }
 
 -- the entry of the stretch is appended, and the hart is the one after it
 pub record Commits (h : ℕ) (to : Hart) (count : ℕ) (m n : Machine) : Type 0 where

@@ -1,22 +1,25 @@
 //! What can be read of a run, and what changes it between steps. No call here takes memory but for
-//! `start`.
-ghost use Rattle.std.specs.Prelude.{◌≡◌, ◌≤◌, ◌<◌, [], false, true, length, None, IfOk, IsTrue};
+//! `start`, `text` and `points`.
+ghost use Rattle.std.specs.Prelude.{◌≡◌, ◌≤◌, ◌<◌, [], false, true, length, None, Some, IfOk, IsTrue};
 ghost use Rattle.guest_words.specs.declared.limits.TheConstants.{BUDGET, HARTS};
 ghost use Rattle.guest_words.specs.Image.{IsLoadList};
 ghost use Rattle.guest_words.specs.Start.{start_of};
 ghost use Rattle.edge_ports.specs.Seen.{Seen};
+ghost use Rattle.hart_step.specs.Registers.{IsTextOf};
 ghost use Rattle.open_calls.specs.Nest.{notes_in};
 ghost use Rattle.run_history.specs.After.{state_after};
 ghost use Rattle.run_history.specs.Counts.{records_of_all};
 ghost use Rattle.run_history.specs.Run.{IsRun};
+ghost use Rattle.machine_core.specs.Commits.{hart_in};
 ghost use Rattle.machine_core.specs.Inner.{machine_in, IsGoing};
 ghost use Rattle.machine_core.specs.Machine.{IsAsTold, IsStart};
 ghost use Rattle.run_history.specs.Quiet.{is_quiet};
 
 use crate::inner::Inner;
 use crate::origin::Origin;
-use guest_words::{Ending, Image, MemoryWant, Points};
-use hart_step::Engine;
+use crate::start_points::StartPoints;
+use guest_words::{Ending, Hart, Image, MemoryWant, Points};
+use hart_step::{Engine, Text};
 use open_calls::Calls;
 use run_history::History;
 use std::alloc::Global;
@@ -51,6 +54,7 @@ impl<K: Origin> Inner<K> {
             calls: Calls::none(alloc, 0)?,
             pending: Log::new(alloc),
             abandoned: false,
+            start_points: StartPoints::of(alloc, points)?,
             alloc,
             origin: PhantomData,
         })
@@ -92,6 +96,31 @@ impl<K: Origin> Inner<K> {
         ensures going { 0 < length self.now.nest.outers → IsGoing self.now }
     {
         self.calls.hart()
+    }
+
+    /// The hart in a slot.
+    pub(crate) fn hart_in(&self, slot: u8) -> Hart
+        requires slot { slot < length K.state.slots }
+        ensures value { hart_in self.now.live.state slot ≡ Some result }
+    {
+        match self.engine.hart(slot) {
+            Some(hart) => *hart,
+            None => unreachable!(),
+        }
+    }
+
+    /// The instructions of the executable pages, which stay as they were at the start.
+    pub(crate) fn text(&self) -> Result<Text, MemoryWant>
+        ensures ok { IfOk result (λ text. IsTextOf text K.state.memory) }
+    {
+        self.engine.text(self.alloc)
+    }
+
+    /// The points of the start.
+    pub(crate) fn points(&self) -> Result<Points, MemoryWant>
+        ensures ok { IfOk result (λ points. points ≡ K.state.points) }
+    {
+        self.start_points.copy(self.alloc)
     }
 
     /// How many calls are open.

@@ -1,4 +1,5 @@
 use crate::origin::Origin;
+use crate::start_points::StartPoints;
 use hart_step::Engine;
 use open_calls::Calls;
 use std::alloc::Global;
@@ -14,6 +15,7 @@ pub struct Inner<K: Origin> {
     /// Room for the notes of one step; empty between steps.
     pub(crate) pending: Log,
     pub(crate) abandoned: bool,
+    pub(crate) start_points: StartPoints<K>,
     pub(crate) alloc: Global,
     pub(crate) origin: PhantomData<K>,
 }

@@ -108,18 +108,12 @@ impl<K: Origin, S: Source, T: Sink, P: Port> Quiet<K, S, T, P> {
             → Begins hart point self result }
         ensures nearer { BeginsNearer self.state hart result }
     {
-        let Quiet { mut core } = self;
-        core.as_mut().inner.turn_to(hart);
-        match core.as_mut().inner.begin() {
-            Ok(()) => Begin::Active(Active { core }),
-            Err(_) => Begin::Memory(Quiet { core }),
-        }
+        self.open_call(hart)
     }
 
     /// The same in a run by threads, for the one whose pass is alone: no other has the machine, and
     /// none takes it before this pass has given it back.
     pub fn begin(self, alone: &AloneTurning<Quiet<K, S, T, P>>, hart: u8) -> Begin<K, S, T, P>
-        requires not_yet { ⊥ }
         requires shared { K.mode ≡ Mode.Shared }
         requires alone { alone.now.view.origin ≡ beginning K.state K.devices K.mode }
         requires going { self.state.ending ≡ None }
@@ -130,7 +124,25 @@ impl<K: Origin, S: Source, T: Sink, P: Port> Quiet<K, S, T, P> {
             → Begins hart point self result }
         ensures nearer { BeginsNearer self.state hart result }
     {
-        unreachable!()
+        let _ = alone;
+        self.open_call(hart)
+    }
+
+    fn open_call(self, hart: u8) -> Begin<K, S, T, P>
+        requires going { self.state.ending ≡ None }
+        requires kept { self.abandoned ≡ false }
+        requires arrived { HasArrived (stepped_of self.state hart) }
+        ensures begins { (point : PointRef)
+            → stepped_of self.state hart ≡ Some (Stepped.Arrived point)
+            → Begins hart point self result }
+        ensures nearer { BeginsNearer self.state hart result }
+    {
+        let Quiet { mut core } = self;
+        core.as_mut().inner.turn_to(hart);
+        match core.as_mut().inner.begin() {
+            Ok(()) => Begin::Active(Active { core }),
+            Err(_) => Begin::Memory(Quiet { core }),
+        }
     }
 
     /// Lets the run stand as it is, for good.

@@ -16,27 +16,27 @@ use hart_step::Text;
 impl<K: Origin, S: Source, T: Sink, P: Port> Quiet<K, S, T, P> {
     /// The hart from which a stretch begins.
     pub fn stretch_base(&self, hart: u8) -> Hart
-        requires not_yet { ⊥ }
         requires hart { hart < length K.state.slots }
         ensures value { hart_in self.now.state hart ≡ Some result }
     {
-        unreachable!()
+        let core: &Core<K, S, T, P> = &self.core;
+        core.inner.hart_in(hart)
     }
 
     /// The instructions of the executable pages, which stay as they were at the start.
     pub fn text(&self) -> Result<Text, MemoryWant>
-        requires not_yet { ⊥ }
         ensures ok { IfOk result (λ text. IsTextOf text K.state.memory) }
     {
-        unreachable!()
+        let core: &Core<K, S, T, P> = &self.core;
+        core.inner.text()
     }
 
     /// The points of the start, each with all of its rescues.
     pub fn points(&self) -> Result<Points, MemoryWant>
-        requires not_yet { ⊥ }
         ensures ok { IfOk result (λ points. points ≡ K.state.points) }
     {
-        unreachable!()
+        let core: &Core<K, S, T, P> = &self.core;
+        core.inner.points()
     }
 
     /// Appends the stretch of a hart that still stands at the base: so many register acts, by which
@@ -45,7 +45,6 @@ impl<K: Origin, S: Source, T: Sink, P: Port> Quiet<K, S, T, P> {
     ///
     /// After Moved, Short and Memory all is as before.
     pub fn commit(&mut self, hart: u8, base: Hart, after: Hart, count: u32) -> Commit
-        requires not_yet { ⊥ }
         requires going { self.old.state.ending ≡ None }
         requires kept { self.old.abandoned ≡ false }
         requires hart { hart < length K.state.slots }
@@ -55,6 +54,8 @@ impl<K: Origin, S: Source, T: Sink, P: Port> Quiet<K, S, T, P> {
         ensures commits { CommitsTo hart base after count self.old result self.new }
         ensures appends { Appends self.old.history self.new.history }
     {
-        unreachable!()
+        let core: &mut Core<K, S, T, P> = self.core.as_mut();
+        core.inner.turn_to(hart);
+        core.inner.commit(base, after, count)
     }
 }

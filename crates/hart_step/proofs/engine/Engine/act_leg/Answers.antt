@@ -1,10 +1,10 @@
-use Rattle.std.proofs.Common.{◌≡◌, ◌<◌, ◌≤◌, true, false, Option, Some, refl, ap, sym, ◌∙◌, subst, arith, length}
+use Rattle.std.proofs.Common.{◌≡◌, Option, Some, refl, ap, sym, ◌∙◌, subst, arith, length}
 use Rattle.guest_words.specs.State.{State, frames_at}
 use Rattle.hart_step.specs.declared.next_act.NextAct.{NextAct}
 use Rattle.hart_step.specs.Live.{Live}
 use Rattle.hart_step.specs.Legs.{IsLeg}
 use Rattle.hart_step.specs.Sees.{is_ordinary_act, Sees}
-use Rattle.hart_step.specs.Stops.{Stops, StopsAt}
+use Rattle.hart_step.specs.Stops.{Stops}
 use Rattle.hart_step.specs.declared.leg.Leg.{Leg}
 use Rattle.undo_log.specs.Noted.{Noted}
 use Rattle.hart_step.proofs.Legs.{act_open, free_ready, leg_empty, leg_one, other_act, ready_within, stops_other}

@@ -1,4 +1,4 @@
-use Rattle.std.proofs.Common.{◌≡◌, false, refl, ap, sym, ◌∙◌, subst}
+use Rattle.std.proofs.Common.{refl, ap, sym, ◌∙◌, subst}
 use Rattle.guest_words.specs.State.{State}
 use Rattle.guest_memory.proofs.Noted.{notes_both}
 use Rattle.hart_step.specs.declared.leg.Leg.{Leg}

@@ -1,8 +1,7 @@
-use Rattle.std.proofs.Common.{◌≡◌, ◌+◌, ◌-◌, ◌<◌, ◌≤◌, refl, ap, sym, ◌∙◌, subst, arith}
+use Rattle.std.proofs.Common.{refl, ◌∙◌, arith}
 use Rattle.guest_memory.proofs.Noted.{notes_both, notes_none}
 use Rattle.hart_step.specs.Live.{space_of}
-use Rattle.hart_step.specs.Legs.{IsLeg}
-use Rattle.hart_step.proofs.Legs.{leg_joined, leg_none, stops_whole}
+use Rattle.hart_step.proofs.Legs.{leg_joined, leg_none}
 use Rattle.hart_step.proofs.engine.Engine.run.Goals as goal
 
 pub loop-init : goal.loop-init

@@ -1,19 +1,17 @@
-use Rattle.std.proofs.Common.{◌*◌, ◌/◌, arith, refl}
+use Rattle.std.proofs.Common.{arith}
 use Rattle.hart_step.specs.Registers.{Stretch}
-use Rattle.hart_step.proofs.Texts.{is_in-pages, multiple}
+use Rattle.hart_step.proofs.Texts.{is_in-range}
 use Rattle.hart_step.proofs.text.Words.of.Goals as goal
 
 pub returns : goal.returns
 returns c =
-    let load = c.args.load.now in
     let insts = c.in_ok-insts.insts.items in
-    let stretch : Stretch = record { from = load.address / 4096 * 4096; insts = insts } in
+    let stretch : Stretch = record { from = c.args.from; insts = insts } in
+    let first = c.requires.from in
     let long = c.in_ok-insts.ensures.count in record {
-      ok = record {
-        tells = record {
-          aligned = multiple (load.address / 4096);
-          insts = λ k less. c.in_ok-insts.ensures.insts k (omega (arith, less, long));
-        };
-        whole = λ pc is. is_in-pages load stretch pc c.requires.load.filled refl long is;
+      tells = record {
+        aligned = omega (arith, first);
+        insts = λ k less. c.in_ok-insts.ensures.insts k (omega (arith, less, long));
       };
+      whole = λ pc low less. is_in-range stretch c.args.end pc first c.requires.end long low less;
     }

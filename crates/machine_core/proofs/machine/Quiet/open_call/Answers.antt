@@ -1,10 +1,9 @@
-use Rattle.std.proofs.Common.{◌≡◌, Some, OnOk, ap, sym, ◌∙◌, subst}
+use Rattle.std.proofs.Common.{◌≡◌, OnOk, ap, ◌∙◌, subst}
 use Rattle.edge_ports.specs.Seen.{seen as told}
-use Rattle.machine_core.specs.declared.stepped.Stepped.TheVariants.{Arrived}
 use Rattle.machine_core.specs.Inner.{Inner, machine_in}
 use Rattle.machine_core.specs.Turns.{Begun}
 use Rattle.machine_core.proofs.Begins.{has_begun}
-use Rattle.machine_core.proofs.machine.Quiet.begin_lone.Goals as goal
+use Rattle.machine_core.proofs.machine.Quiet.open_call.Goals as goal
 
 pub returns-in-Ok-clause-begins : goal.returns-in-Ok-clause-begins
 returns-in-Ok-clause-begins g c = λ point stood.
