@@ -12,7 +12,6 @@ use Rattle.elf_symbols.specs.declared.symbol.Symbol.{Symbol}
 use Rattle.guest_words.specs.declared.elf_fault.ElfFault.{ElfFault}
 use Rattle.guest_words.specs.Image.{first_fault}
 use Rattle.edge_ports.specs.Shelves.{Shelved}
-use Rattle.clap.specs.Words.{Row}
 use Rattle.program_words.specs.Kinds.{kind_named}
 use Rattle.program_words.specs.Ports.{first_bad_port}
 use Rattle.program_words.specs.Words.{command_in, command_of, first_word_fault, is_taken, port_words, reading_of, reading_of_kind, rows_in, unless_bad_port}
@@ -236,27 +235,26 @@ run_named false false true d is = cc
 run_named false false false true is = cc
 run_named false false false false is = cc
 
-run_rows : (k : CommandKind) (rows : List Row) → IsTrue (runs_threads (command_in k rows)) → k ≡ kind.Run
-run_rows kind.Run rows threads = refl
-run_rows kind.Alone rows threads = cc
-run_rows kind.List rows threads = cc
-run_rows kind.Load rows threads = cc
+run_rows : (k : CommandKind) (rest : List (List ℕ)) → IsTrue (runs_threads (command_in k (rows_in k rest))) → k ≡ kind.Run
+run_rows kind.Run rest threads = refl
+run_rows kind.Alone rest threads = cc
+run_rows kind.List rest threads = cc
+run_rows kind.Load rest threads = cc
 
-abbrev command_by : Result (CommandKind × List Row) WordFault → Result Command WordFault
-command_by reading = result_map_both (λ r. command_in r.0 r.1) (λ fault. fault) reading
+taken_rows : {R : Type 0} (k : CommandKind) (rows : R) (bad : Option ℕ) (taken : Bool) (f : CommandKind × R → Command) (c : Command)
+    → result_map_both f (λ x. x) (if taken then unless_bad_port (k, rows) bad else Err Line) ≡ Ok c → f (k, rows) ≡ c
+taken_rows k rows None true f c is = cc
+taken_rows k rows (Some index) true f c is = cc
+taken_rows k rows bad false f c is = cc
 
-run_taken : (k : CommandKind) (rows : List Row) (bad : Option ℕ) (taken : Bool) (c : Command)
-    → command_by (if taken then unless_bad_port (k, rows) bad else Err Line) ≡ Ok c → IsTrue (runs_threads c) → k ≡ kind.Run
-run_taken k rows None true c is threads =
-    let same : command_in k rows ≡ c = cc in run_rows k rows (subst (λ x. IsTrue (runs_threads x)) (sym same) threads)
-run_taken k rows (Some index) true c is threads = cc
-run_taken k rows bad false c is threads = cc
-
-run_kind : (o : Option CommandKind) (rest : List (List ℕ)) (c : Command) → command_by (reading_of_kind o rest) ≡ Ok c
-    → IsTrue (runs_threads c) → o ≡ Some kind.Run
+run_kind : (o : Option CommandKind) (rest : List (List ℕ)) (c : Command)
+    → result_map_both (λ r. command_in r.0 r.1) (λ fault. fault) (reading_of_kind o rest) ≡ Ok c → IsTrue (runs_threads c) → o ≡ Some kind.Run
 run_kind None rest c is threads = cc
 run_kind (Some k) rest c is threads =
-    ap Some (run_taken k (rows_in k rest) (first_bad_port (port_words (rows_in k rest))) (is_taken k rest) c is threads)
+    let rows = rows_in k rest in
+    let same : command_in k rows ≡ c =
+    taken_rows k rows (first_bad_port (port_words rows)) (is_taken k rest) (λ r. command_in r.0 r.1) c is in
+    ap Some (run_rows k rest (subst (λ x. IsTrue (runs_threads x)) (sym same) threads))
 
 run_read : (words : List (List ℕ)) (c : Command) → command_of words ≡ Ok c → IsTrue (runs_threads c) → IsTrue (needs_threads words)
 run_read [] c is threads = cc

@@ -125,7 +125,7 @@ fn answer_of_run<S: Source, T: Sink, P: Port, R: Sink>(
     ensures run { (start : Start) (devices : Devices S T P)
         → RunsOn S.end T.end P.end start devices ran
         → IsRunOn start (seen S.end T.end P.end devices) (R.end report.old) (R.end report.new)
-            (told S.end T.end P.end result) }
+        (told S.end T.end P.end result) }
     ensures status { result.status ≡ status_of result.outcome }
     ensures same { (start : Start) (devices : Devices S T P)
         → RunsOn S.end T.end P.end start devices ran

@@ -1,5 +1,5 @@
 //! The load of a number: how it is prepared and run.
-ghost use Rattle.std.specs.Prelude.{◌≡◌, ◌≤◌, ◌⊎◌, [], None, IfOk};
+ghost use Rattle.std.specs.Prelude.{◌≡◌, ◌≤◌, ◌⊎◌, [], None, IfOk, false};
 ghost use Rattle.edge_ports.specs.InMemory.{port_end, sink_end, sure_end};
 ghost use Rattle.edge_ports.specs.Seen.{seen};
 ghost use Rattle.load_maker.specs.File.{load_file};

@@ -1,4 +1,4 @@
-ghost use Rattle.std.specs.Prelude.{◌≡◌, IfOk};
+ghost use Rattle.std.specs.Prelude.{◌≡◌, IfOk, false};
 ghost use Rattle.program_words.specs.Ranges.{IsInRange};
 ghost use Rattle.program_words.specs.Words.{texts};
 ghost use Rattle.rescue_run.specs.Outcomes.{of_words_fault};

@@ -1,4 +1,4 @@
-ghost use Rattle.std.specs.Prelude.{◌≡◌, length, None};
+ghost use Rattle.std.specs.Prelude.{◌≡◌, length, None, false};
 ghost use Rattle.edge_ports.specs.DevicesMatch.{DevicesMatch};
 ghost use Rattle.edge_ports.specs.Seen.{seen};
 ghost use Rattle.machine_core.specs.Machine.{AllOpen};

@@ -3,7 +3,7 @@ ghost use Rattle.std.specs.Prelude.{◌≡◌};
 use machine_core::{Limits, Mode};
 
 /// In which order the harts of a run take turns.
-#[derive(Clone, Copy, Debug, PartialEq, Eq)]
+#[derive(Clone, Copy)]
 pub enum Schedule {
     /// One thread makes all turns, each that of the hart which the next word of this seed chooses.
     Lone { seed: u64 },
@@ -12,7 +12,7 @@ pub enum Schedule {
 }
 
 /// How a program is run.
-#[derive(Clone, Copy, Debug, PartialEq, Eq)]
+#[derive(Clone, Copy)]
 pub struct Setup {
     /// The slots for harts: 1 to 64.
     pub harts: u8,

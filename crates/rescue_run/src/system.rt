@@ -1,7 +1,9 @@
 //! The top calls over the files and the streams of the system.
+use crate::put::put_memory;
 use crate::tops::{alone_top, top};
 use edge_ports::{FilePort, FileShelf, Port, Standard, StdSink, StdSource};
-use program_words::{needs_threads, port_names, report_to_out};
+use guest_words::MemoryWant;
+use program_words::{WordsFault, needs_threads, port_names, report_to_out};
 use std::alloc::AllocError;
 use std::process::ExitCode;
 use std::sync::Wait;
@@ -34,12 +36,14 @@ pub fn run_words_to<H: Threads + Wait + Sync>(
     report: Standard,
 ) -> Result<ExitCode, AllocError> {
     let alloc = rt.alloc();
-    let ports = open_ports(rt, words)?;
+    let mut report = StdSink::new(report);
+    let Ok(ports) = open_ports(rt, words) else {
+        return Ok(ExitCode::from(put_memory(&mut report).status()));
+    };
     let mut shelf = FileShelf::new(rt.clone()?);
     let input = StdSource::new(rt.stdin());
     let out = StdSink::new(Standard::Out(rt.stdout()));
     let err = StdSink::new(Standard::Err(rt.stderr()));
-    let mut report = StdSink::new(report);
     let answer = if needs_threads(words) {
         top(
             host,
@@ -68,18 +72,18 @@ pub fn run_words_to<H: Threads + Wait + Sync>(
     Ok(ExitCode::from(answer.status))
 }
 
-/// The ports that the words name, and none where they are refused.
-fn open_ports(
-    rt: &HostRuntime,
-    words: &[String],
-) -> Result<Vec<Box<dyn Port + Send>>, AllocError> {
+/// The ports that the words name, and none where the words are refused.
+fn open_ports(rt: &HostRuntime, words: &[String]) -> Result<Vec<Box<dyn Port + Send>>, MemoryWant> {
     let alloc = rt.alloc();
     let mut ports: Vec<Box<dyn Port + Send>> = Vec::new(alloc);
-    if let Ok(names) = port_names(alloc, words) {
-        for name in names.items() {
-            let port = FilePort::open(rt, name.input.items(), name.output.items());
-            ports.push(Box::new(alloc, port).map_err(|_| AllocError)?)?;
-        }
+    let names = match port_names(alloc, words) {
+        Ok(names) => names,
+        Err(WordsFault::Words(_)) => return Ok(ports),
+        Err(WordsFault::Memory) => return Err(MemoryWant),
+    };
+    for name in names.items() {
+        let port = FilePort::open(rt, name.input.items(), name.output.items());
+        ports.push(Box::new(alloc, port).map_err(|_| MemoryWant)?)?;
     }
     Ok(ports)
 }

@@ -87,9 +87,7 @@ fn answer_on_threads<
     ensures same { StaySame result.history devices result.devices }
 {
     match prepared {
-        Ok(Task::Run(start)) => {
-            answer_run_on_threads(rt, alloc, &start, devices, report, door)
-        }
+        Ok(Task::Run(start)) => { answer_run_on_threads(rt, alloc, &start, devices, report, door) }
         Ok(Task::List(symbols)) => answer_list(alloc, &symbols, devices, report),
         Ok(Task::Load(load)) => answer_load(alloc, load, devices, report),
         Err(outcome) => answer_with_line(alloc, outcome, devices, report),
@@ -131,14 +129,7 @@ pub fn alone_top<F: Shelf, S: Source, T: Sink, R: Sink>(
 
 /// Does what [`alone_top`] does, where there are threads: a command on threads runs a program by a
 /// worker for each hart. Each worker asks the door before each of its turns. It may wait forever.
-pub fn top<
-    H: Threads + Wait + Sync,
-    F: Shelf,
-    S: Source + Send,
-    T: Sink + Send,
-    R: Sink,
-    D: Door,
->(
+pub fn top<H: Threads + Wait + Sync, F: Shelf, S: Source + Send, T: Sink + Send, R: Sink, D: Door>(
     rt: &H,
     alloc: Global,
     words: &[String],

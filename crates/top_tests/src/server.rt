@@ -14,7 +14,13 @@ use stop_gate::OpenDoor;
 /// An executable for RISC-V with the entry 0x10000, five program headers at 64, and three section
 /// headers at 648.
 const HEADER: [u64; 8] = [
-    0x00010102464c457f, 0, 0x0000000100f30002, 0x10000, 64, 648, 0x0038004000000000,
+    0x00010102464c457f,
+    0,
+    0x0000000100f30002,
+    0x10000,
+    64,
+    648,
+    0x0038004000000000,
     0x0000000300400005,
 ];
 

@@ -118,7 +118,10 @@ fn add_bytes<R: Abort + Threads + Wait + Sync, S: Source + Send, D: Door>(
 
 /// How many of the entries are rescued calls.
 fn rescues(entries: &[Entry]) -> usize {
-    entries.iter().filter(|entry| matches!(entry, Entry::Rescued { .. })).count()
+    entries
+        .iter()
+        .filter(|entry| matches!(entry, Entry::Rescued { .. }))
+        .count()
 }
 
 #[test]

@@ -12,5 +12,5 @@ returns-in-Ok-clause-out c =
     let same = c.if_sure.ensures.same in
     ap (λ (r : Ran (List ℕ) SinkState PortState). r.devices.out.given) same
     ∙ load_out c.args.load.input (seen sure_end sink_end port_end c.in_ok-devices.devices) (seen sure_end sink_end port_end ran.devices)
-    ran.history.entries ran.devices.out.given c.in_ok-devices.ensures.told c.in-Ok.ensures.matches refl
+    ran.history.entries ran.devices.out.given c.in_ok-devices.ensures.told c.in-Ok.ensures.runs.matches refl
     ∙ sym (ap (λ (r : Ran (List ℕ) SinkState PortState). out_of r.history.entries) same)

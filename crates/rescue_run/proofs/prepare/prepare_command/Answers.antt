@@ -10,8 +10,8 @@ returns-in-List-clause-prepares g c =
     subst (λ k. PreparesCommand k old new c.prepare_list.result) (sym c.in-List.is)
     (prepares_list c.in-List.program old new c.prepare_list.result c.prepare_list.ensures.lists)
 
-pub returns-clause-prepares : goal.returns-clause-prepares
-returns-clause-prepares g c =
+pub returns-in-Load-clause-prepares : goal.returns-in-Load-clause-prepares
+returns-in-Load-clause-prepares g c =
     let s = g.F.Shelf.seen c.args.shelf.now in
     subst (λ k. PreparesCommand k s s c.prepare_load.result) (sym c.in-Load.is)
     (prepares_load c.in-Load.number s c.prepare_load.result c.prepare_load.ensures.value)

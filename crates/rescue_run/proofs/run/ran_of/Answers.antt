@@ -9,6 +9,6 @@ returns-clause-run g c =
       run = last.ensures.run;
       order = tt;
       last = last.ensures.points ∙ ap (λ (s : State). s.points) last.ensures.reaches;
-      explains = explains g.K.Origin.state last.result.0.entries _ last.ensures.run c.requires
+      explains = explains g.K.Origin.state last.result.0.entries _ last.ensures.run c.requires.fresh
           (sym (c.ending-ending.ensures.value ∙ ap (λ (s : State). s.ending) last.ensures.reaches));
     }
