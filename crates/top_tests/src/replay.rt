@@ -47,7 +47,8 @@ pub fn replays(
     }
 }
 
-fn loaded(alloc: Global, file: &[u8]) -> Result<Image, AllocError>
+/// The image of a file. An Err is want of memory, or a file that is refused.
+pub fn loaded(alloc: Global, file: &[u8]) -> Result<Image, AllocError>
     ensures loads { IfOk result (λ image. IsLoadList image.loads) }
 {
     match load(alloc, file) {
