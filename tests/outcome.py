@@ -101,7 +101,7 @@ def run(program, words, stdin="/dev/null", environment=None):
 class Expected:
     """What is known of a run: harts, budget, and the points by entry, where these are known."""
     harts: int = 64
-    budget: int = 20_000_000
+    budget: int | None = None
     points: dict | None = None
 
 
@@ -143,7 +143,8 @@ def end_faults(outcome, end, steps, expected):
         if found:
             wanted = int(found.group(1)) if status is None else status
             faults = [] if wanted == outcome.status else ["another status than the end's"]
-            if steps > expected.budget or (end == b"budget" and steps != expected.budget):
+            budget = steps if expected.budget is None else expected.budget
+            if steps > budget or (end == b"budget" and steps != budget):
                 faults.append("the steps don't fit the budget")
             return faults
     return ["an unknown end"]
