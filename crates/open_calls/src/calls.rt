@@ -154,16 +154,25 @@ impl Calls {
         self.refill(room)
     }
 
-    // Room for as much again as there is, so that a long call is seldom refilled.
+    // Room for as much again as there is, so that a long call is seldom refilled; of what isn't
+    // wanting as much as there is room for.
     fn room_ahead(&self, notes: u64) -> Room
         ensures entries { 0 < result.entries }
         ensures notes { notes ≤ result.notes }
     {
-        let entries = self.top.entries.items().len();
-        let noted = self.top.log.length();
+        let entries = self.top.entries.items().len().min(MOST_ENTRIES);
+        let noted = self.top.log.length().min(MOST_NOTES);
         Room {
-            entries: entries.min(MOST_ENTRIES).max(ENTRIES),
-            notes: noted.min(MOST_NOTES).max(NOTES).max(notes),
+            entries: if self.acts > 0 {
+                self.acts
+            } else {
+                entries.max(ENTRIES)
+            },
+            notes: if notes <= self.notes {
+                self.notes
+            } else {
+                noted.max(NOTES).max(notes)
+            },
         }
     }
 
