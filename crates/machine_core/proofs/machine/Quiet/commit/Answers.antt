@@ -1,4 +1,4 @@
-use Rattle.std.proofs.Common.{◌≡◌, ℕ, arith, ap, sym, ◌∙◌, subst}
+use Rattle.std.proofs.Common.{◌≡◌, ℕ, ap, ◌∙◌, subst}
 use Rattle.edge_ports.specs.Seen.{seen as told}
 use Rattle.machine_core.specs.Commits.{CommitsTo}
 use Rattle.machine_core.specs.Inner.{machine_in}

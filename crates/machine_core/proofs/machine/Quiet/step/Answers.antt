@@ -1,7 +1,7 @@
-use Rattle.std.proofs.Common.{◌≡◌, ◌<◌, ◌≤◌, length, Ok, IfOk, ap, sym, ◌∙◌, subst, arith}
+use Rattle.std.proofs.Common.{◌<◌, ◌≤◌, IfOk, ap, sym, ◌∙◌, subst}
 use Rattle.guest_words.specs.Act.{act_of}
 use Rattle.guest_words.specs.State.{State}
-use Rattle.edge_ports.specs.Seen.{Seen, seen as told}
+use Rattle.edge_ports.specs.Seen.{seen as told}
 use Rattle.run_history.specs.Ahead.{ahead}
 use Rattle.machine_core.specs.Inner.{Inner, machine_in}
 use Rattle.machine_core.specs.Machine.{Machine}
