@@ -10,5 +10,5 @@ fn main(rt: HostRuntime) -> anyhow::Result<ExitCode> {
     for word in env::args(&rt)?.skip(1) {
         words.push(word)?;
     }
-    Ok(run_words(&rt, &words)?)
+    Ok(run_words(&rt, &rt, &words)?)
 }
