@@ -233,7 +233,8 @@ def with_sections(contents, start, count):
 def many_symbols(count, length):
     """So many symbols with names of their own, so long."""
     elf = smallest()
-    elf.symbols = [Symbol(f"f{number}".ljust(length, "_").encode(), 0x10000 + 4 * (number % 3))
+    elf.loads[0].size = 4096
+    elf.symbols = [Symbol(f"f{number}".ljust(length, "_").encode(), 0x10000 + 4 * (number % 1024))
                    for number in range(count)]
     return elf.bytes()
 
