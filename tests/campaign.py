@@ -5,9 +5,9 @@
 
 Checks of each case what needs no model: the program ends, by a status of the manual's table, with
 one line or with a report that adds up; the output, the report and the files of ports are the same
-bytes at a second run; and `run` ends as well as `alone`, with one hart in the same way. A case is
-made of the seed and its number alone: `--first N --cases 1` makes it again. Files of a finding
-stay in a folder that is named. Ends with 1 if there are any.
+bytes at a second run; and `run`, where it is built, ends so too, with one hart exactly as `alone`.
+A case is made of the seed and its number alone: `--first N --cases 1` makes it again. Files of a
+finding stay in a folder that is named. Ends with 1 if there are any.
 """
 import argparse
 import os
@@ -111,16 +111,13 @@ class Runs:
         findings = self.checked(seeded, first[0])
         if self.made(seeded) != first:
             findings.append("a second run differs")
-        if words[:1] == ["alone"] and self.case.kind != "words":
+        if words[:1] == ["alone"] and self.case.kind != "words" and self.threads:
             findings += self.threaded(["run", *words[1:]], first)
         return findings
 
     def threaded(self, words, first):
         """What is wrong with `run` on the same files."""
         came = self.made(words)
-        if not self.threads:
-            refused = came[0].status == 64 and came[0].err == b"refused: words threads\n"
-            return [] if refused else ["run: another refusal than that of threads"]
         findings = ["run: " + text for text in self.checked(words, came[0])]
         if self.case.harts == 1 and came != first and b"loose-here" not in first[0].err:
             findings.append("run: with one hart it differs from alone")

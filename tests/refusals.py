@@ -55,7 +55,6 @@ def runs():
         Run("server of run", ["run", "--points", "server.toml", "server", "a:b", "c:d"], ports,
             ["b", "d"]),
         Run("list", ["list", "server"], ports, told_out=True),
-        Run("load", ["load", "1"], {}, told_out=True),
         Run("words", ["alone"], {}),
         Run("no program", ["alone", "nowhere"], {}),
     ]
@@ -68,7 +67,7 @@ def runs():
         files = {"names": guests.two_names().bytes(), "names.toml": text.encode()}
         made.append(Run(f"rescue file {number}", ["alone", "--points", "names.toml", "names"],
                         files))
-    return made
+    return [*made, Run("load", ["load", "1"], {}, told_out=True)]
 
 
 class Refusals:
