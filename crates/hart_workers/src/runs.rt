@@ -88,8 +88,8 @@ fn placed<K: Origin, S: Source, T: Sink, P: Port>(
     places
 }
 
-/// Runs a machine by a worker for each of its harts, until it is over. Where memory is wanting
-/// before they start, it is abandoned.
+/// Runs a machine by a worker for each of its harts, until it is over. One whose run has ended comes
+/// back as it is. Where memory is wanting before they start, it is abandoned.
 pub fn run_all<
     R: Threads + Wait + Sync,
     K: Origin + Send + Sync,
@@ -100,9 +100,11 @@ pub fn run_all<
 >(rt: &R, alloc: Global, machine: Quiet<K, S, T, P>, door: &D) -> Quiet<K, S, T, P>
     requires shared { K.mode ≡ Mode.Shared }
     requires slots { 0 < length machine.state.slots }
-    requires going { machine.state.ending ≡ None }
     ensures over { IsTrue (is_over result) }
 {
+    if machine.ending().is_some() {
+        return machine;
+    }
     let harts = machine.harts() as u8;
     let (Ok(text), Ok(points)) = (machine.text(), machine.points()) else {
         return give_up(machine);
