@@ -177,6 +177,29 @@ def area_taken_back(code):
     code.word(words.EBREAK)
 
 
+def stores_in_point(code):
+    """A point that only stores, to the same 32 bytes."""
+    code.put(8, DATA)
+    code.jump("point", RA)
+    code.label("point")
+    code.op("addi", 5, ZERO, 1)
+    code.label("stores")
+    for distance in range(0, 32, 8):
+        code.op("sd", 5, distance, 8)
+    code.jump("stores")
+
+
+def pages_in_point(code):
+    """A point in which one page comes and goes."""
+    code.jump("point", RA)
+    code.label("point")
+    code.op("addi", 5, ZERO, 1)
+    code.label("again")
+    code.call(words.MMAP, 0, 4096, 3, 0x22)
+    code.call(words.MUNMAP, None, 4096)
+    code.jump("again")
+
+
 def guest_row(name, steps, put, harts=8, data=4096):
     """A row of a guest: its point is the label `point` where it has one."""
     code = Code()
@@ -200,6 +223,8 @@ def guest_rows():
         guest_row("16 frames store to the same 256 pages, and return", 500_000,
                   sixteen_frames(RETURN), data=1 << 20),
         guest_row("the same, and each is rescued", 500_000, sixteen_frames(FAULT), data=1 << 20),
+        guest_row("one call of a point, with 400,000 stores", 500_000, stores_in_point),
+        guest_row("one call of a point, in which a page comes and goes", 100_000, pages_in_point),
         guest_row("63 wait, one is woken", 500_000, waiters, 64),
         guest_row("clones and exits", 500_000, clones, 64),
         guest_row("writes of one byte", 100_000, bytes_moved(words.WRITE, 1)),

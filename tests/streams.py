@@ -49,8 +49,8 @@ TRIED = [
     ("error full, refused", "$R alone nowhere 2> /dev/full", 66, NOTHING),
     ("list to a full output", "$R list server > /dev/full", 74, NOTHING),
     ("load to a full output", "$R load 1 > /dev/full", 74, NOTHING),
-    ("output broken", "(sleep 0.3; $R alone echo < input; echo $? > st) | true; exit $(cat st)", 251,
-     REPORT),
+    ("output broken", "(sleep 0.3; $R alone echo < input; echo $? > st) | true; exit $(cat st)",
+     251, REPORT),
     ("error broken", "(sleep 0.3; $R alone echo < input 2>&1 > /dev/null; echo $? > st) | true; "
      "exit $(cat st)", 74, NOTHING),
     ("list to a broken output", "(sleep 0.3; $R list server; echo $? > st) | true; exit $(cat st)",
