@@ -42,15 +42,15 @@ impl<K: Origin> Stretch<K> {
         requires text { IsTextOf text.now K.state.memory }
     {
         let base = machine.stretch_base(hart);
-        match base.state {
-            HartState::Ready if base.regs[0] == 0 => Some(Stretch {
-                base,
-                after: base,
-                count: 0,
-                origin: PhantomData,
-            }),
-            _ => None,
+        if !matches!(base.state, HartState::Ready) || base.regs[0] != 0 {
+            return None;
         }
+        Some(Stretch {
+            base,
+            after: base,
+            count: 0,
+            origin: PhantomData,
+        })
     }
 
     /// Makes the acts, where none is made yet. Needs no turn.
