@@ -51,5 +51,6 @@ needs_no_threads [] number reads = refl
 needs_no_threads (first ∷ rest) number reads = not_run first rest number (bytes_eq first (codes "run")) refl reads
 
 pub load_starts : LoadStarts
-load_starts words number answers reads =
+load_starts true words number answers reads = rw reads (ap (load_with number) loaded_from-load)
+load_starts false words number answers reads =
     rw (needs_no_threads words number reads, reads) (ap (load_with number) loaded_from-load)

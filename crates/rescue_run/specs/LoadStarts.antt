@@ -1,6 +1,6 @@
 -- A load is never refused: the files that it brings are accepted, so that its words can come to
 -- nothing but its run.
-use Rattle.std.specs.Prelude.{◌≡◌, ℕ, List, [], ◌∷◌, Ok}
+use Rattle.std.specs.Prelude.{◌≡◌, ℕ, Bool, List, [], ◌∷◌, Ok}
 use Rattle.load_maker.specs.Accepted.{code_load, data_load, load_point}
 use Rattle.program_words.specs.Words.{command_of}
 use Rattle.program_words.specs.declared.command.Command.TheVariants as command
@@ -16,8 +16,9 @@ load_loaded = record {
   points = load_point ∷ [];
 }
 
--- words that are read as a load of this number come to its run, whatever a shelf would answer
+-- words that are read as a load of this number come to its run, with threads or without, and
+-- whatever a shelf would answer
 abbrev pub LoadStarts : Type 0
-LoadStarts = (words : List (List ℕ)) (number : ℕ) (answers : Answers)
+LoadStarts = (threads : Bool) (words : List (List ℕ)) (number : ℕ) (answers : Answers)
     → command_of words ≡ Ok (command.Load number)
-    → task_for words 0 answers ≡ Ok (task.Load (load_task number load_loaded))
+    → task_for threads words 0 answers ≡ Ok (task.Load (load_task number load_loaded))
