@@ -65,13 +65,7 @@ fn place_for(
 /// Puts the instruction at an address that the table lacks at its place, where the hart can go on
 /// with it, or says what the hart does instead.
 #[inline(never)]
-fn learn(
-    hart: &Hart,
-    memory: &Memory,
-    points: &Points,
-    frames: usize,
-    table: &mut [Known],
-) -> Did
+fn learn(hart: &Hart, memory: &Memory, points: &Points, frames: usize, table: &mut [Known]) -> Did
     requires table { IsTable memory.now.space points.now table.old }
     ensures table { IsTable memory.now.space points.now table.new }
     ensures placed { result ≡ Did.Went

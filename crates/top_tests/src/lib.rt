@@ -40,8 +40,8 @@ mod rescues;
 #[cfg(test)]
 mod seeds;
 #[cfg(test)]
-mod stretches;
-#[cfg(test)]
 mod server;
+#[cfg(test)]
+mod stretches;
 #[cfg(test)]
 mod threads;
