@@ -111,7 +111,7 @@ fn add_bytes<R: Abort + Threads + Wait + Sync, S: Source + Send, D: Door>(
     };
     let (answer, _) = done(rt, alloc, task, input, Vec::new(alloc), door)?;
     let history = answer.history.as_ref().ok_or("a history")?;
-    assert!(rt; answer.devices.out.given() == &8000u64.to_le_bytes());
+    assert!(rt; answer.devices.out.given() == 8000u64.to_le_bytes().as_slice());
     assert_eq!(rt; rescues(history.items()), 2000);
     Ok(())
 }
