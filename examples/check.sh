@@ -27,7 +27,7 @@ compare() {
     fi
 }
 
-# Output as it is compared: the answers of `workers` come in an order of their own each time.
+# Output as it is compared: the answers of `workers` may come in any order.
 ordered() {
     if [ "$name" = workers ]; then LC_ALL=C sort "$1"; else cat "$1"; fi
 }
