@@ -5,9 +5,10 @@
 
 Checks of each case what needs no model: the program ends, by a status of the manual's table, with
 one line or with a report that adds up; the output, the report and the files of ports are the same
-bytes at a second run; and `run`, where it is built, ends so too, with one hart exactly as `alone`.
-A case is made of the seed and its number alone: `--first N --cases 1` makes it again. Files of a
-finding stay in a folder that is named. Ends with 1 if there are any.
+bytes at a second run, with one hart also under another seed; and `run`, where it is built, ends so
+too, with one hart exactly as `alone`. A case is made of the seed and its number alone: `--first N
+--cases 1` makes it again. Files of a finding stay in a folder that is named. Ends with 1 if there
+are any.
 """
 import argparse
 import os
@@ -104,14 +105,15 @@ class Runs:
     def findings(self):
         """What is wrong with the case, as texts."""
         words = self.case.words()
-        seeded = list(words)
-        if self.case.kind != "words" and words[0] == "alone":
-            seeded.insert(1, f"--seed={self.case.random.randrange(2**64)}")
-        first = self.made(seeded)
-        findings = self.checked(seeded, first[0])
-        if seeded[:1] != ["run"] and self.made(seeded) != first:
+        alone = words[:1] == ["alone"] and self.case.kind != "words"
+        seed = self.case.random.randrange(2**64)
+        again = seed ^ 1 if self.case.harts == 1 else seed
+        first = self.made(seeded(words, seed) if alone else words)
+        findings = self.checked(words, first[0])
+        second = seeded(words, again) if alone else words
+        if words[:1] != ["run"] and self.made(second) != first:
             findings.append("a second run differs")
-        if words[:1] == ["alone"] and self.case.kind != "words" and self.threads:
+        if alone and self.threads:
             findings += self.threaded(["run", *words[1:]], first)
         return findings
 
@@ -128,6 +130,11 @@ class Runs:
         if came.refusal() is None and words[:1] in (["list"], ["load"]):
             return told_faults(words, came)
         return outcome.faults_of(came, self.case.expected(words))
+
+
+def seeded(words, seed):
+    """The words with this seed."""
+    return [words[0], f"--seed={seed}", *words[1:]]
 
 
 def told_faults(words, came):
