@@ -1,4 +1,4 @@
-//! The summary of a load, as the program puts it.
+//! The summary of the longest load, as the program puts it.
 #![tactic(auto)]
 
 use rescue_run::run_words;

@@ -19,33 +19,23 @@ fn shelf(alloc: Global) -> Result<MemoryShelf, AllocError> {
     Ok(MemoryShelf::new(files, Vec::new(alloc)))
 }
 
-// The program has no symbols. The load's ending is that of its program.
+// Worked out apart from the program: the sum of the input that the words of the number 1 give, its
+// zeros, which are the rescues, and the steps of the listing in the turns that these words choose.
+const FIRST_LOAD: &str = "load 1\nbytes 1000\nsum 7630\nsteps 17060\nrecords 1005\nrescues 67\n\
+    end exit 0\n";
+
+// The program has no symbols.
 #[test]
 fn list_and_load(rt: HostRuntime) -> Result<(), Fail> {
     let alloc = rt.alloc();
     let mut shelf = shelf(alloc)?;
-    let listed = run_on(
-        alloc,
-        &list(alloc, &["list", "p"])?,
-        &mut shelf,
-        &Case::of(&[]),
-    )?;
+    let nothing = Case::of(&[]);
+    let listed = run_on(alloc, &list(alloc, &["list", "p"])?, &mut shelf, &nothing)?;
     assert_eq!(rt; listed.answer.status, 0);
     assert!(rt; listed.answer.history.is_none());
     assert!(rt; listed.report.given().is_empty());
-    let loaded = run_on(
-        alloc,
-        &list(alloc, &["load", "1"])?,
-        &mut shelf,
-        &Case::of(&[]),
-    )?;
+    let loaded = run_on(alloc, &list(alloc, &["load", "1"])?, &mut shelf, &nothing)?;
     assert_eq!(rt; loaded.answer.status, 0);
-    assert!(rt;
-        loaded
-            .report
-            .given()
-            .starts_with(b"load 1\nbytes 1000\nsum ")
-    );
-    assert!(rt; loaded.report.given().ends_with(b"\nend exit 0\n"));
+    assert!(rt; loaded.report.given() == FIRST_LOAD.as_bytes());
     Ok(())
 }
