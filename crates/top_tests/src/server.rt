@@ -113,10 +113,21 @@ const REPORT: &str = "\nrecords 4\nrescues 1\n\
     rescue depth 0 hart 1 point 00000000000100b0 fault load-rights pc 00000000000100c4 \
     steps 5 records 0 code -1\nend exit 0\n";
 
+/// Whether the port was given just these bytes.
+fn was_given(port: Option<&Box<dyn Port + Send>>, bytes: &[u8]) -> bool {
+    match port {
+        Some(port) => match port.given() {
+            Some(given) => given == bytes,
+            None => false,
+        },
+        None => false,
+    }
+}
+
 fn serve<R: Abort + Threads + Wait + Sync>(
     rt: &R,
     alloc: Global,
-    words: &[&str],
+    words: &'static [&'static str],
 ) -> Result<(), Fail> {
     let program = program(alloc)?;
     let task = Task {
@@ -131,8 +142,9 @@ fn serve<R: Abort + Threads + Wait + Sync>(
     };
     let input = MemorySource::new(Bytes::of(Vec::new(alloc)), Vec::new(alloc));
     let (answer, report) = done(rt, alloc, task, input, connections(alloc)?, &OpenDoor)?;
-    let given = answer.devices.ports.iter().map(|port| port.given());
-    assert!(rt; given.eq([Some(b"K".as_slice()), Some(b"E".as_slice())]));
+    let ports = answer.devices.ports.as_slice();
+    assert!(rt; was_given(ports.first(), b"K"));
+    assert!(rt; was_given(ports.get(1), b"E"));
     assert!(rt; report.given().ends_with(REPORT.as_bytes()));
     Ok(())
 }

@@ -17,7 +17,7 @@ use stop_gate::{Door, OpenDoor};
 /// A command that is run on threads, with the files that it names and what they start.
 #[derive(Clone, Copy)]
 pub struct Task<'a> {
-    pub words: &'a [&'a str],
+    pub words: &'static [&'static str],
     pub program: &'a [u8],
     pub start: ReplayStart<'a>,
 }
@@ -111,7 +111,7 @@ fn add_bytes<R: Abort + Threads + Wait + Sync, S: Source + Send, D: Door>(
     };
     let (answer, _) = done(rt, alloc, task, input, Vec::new(alloc), door)?;
     let history = answer.history.as_ref().ok_or("a history")?;
-    assert!(rt; answer.devices.out.given() == &8000u64.to_le_bytes());
+    assert!(rt; answer.devices.out.given() == 8000u64.to_le_bytes().as_slice());
     assert_eq!(rt; rescues(history.items()), 2000);
     Ok(())
 }
