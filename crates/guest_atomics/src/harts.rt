@@ -105,7 +105,7 @@ impl Harts {
         ensures ok { IfOk result (λ harts. harts ≡ self.now) }
     {
         Ok(Harts {
-            items: self.items.as_slice().to_vec(alloc)?,
+            items: Vec::from_slice(alloc, self.items.as_slice())?,
             lent: self.lent,
             others: self.others,
         })

@@ -102,56 +102,49 @@ unfolding with_zeros
 zeros_none m from rights = refl
 
 -- two ranges side by side go as one
-pub without_joined : (m : Space) (from size more : ℕ) → without (without m from size) (from + size) more ≡ without m from (size + more)
+pub without_joined : (m : Space) (from size more : ℕ) → without (without m (from + size) more) from size ≡ without m from (size + more)
 without_joined m from size more =
     same_map nat_cmp_total nat_cmp-IsAntisymmetric _ _ (λ a. by a (range_tells from size a) (range_tells (from + size) more a))
   where
     by : (a : ℕ) → ((is_within from size a ≡ true) × (from ≤ a) × (a < from + size)) ⊎ ((is_within from size a ≡ false) × (from ≤ a → a < from + size → ⊥))
         → ((is_within (from + size) more a ≡ true) × (from + size ≤ a) × (a < from + size + more)) ⊎ ((is_within (from + size) more a ≡ false) × (from + size ≤ a → a < from + size + more → ⊥))
-        → get (without (without m from size) (from + size) more) a ≡ get (without m from (size + more)) a
-    by a x (inl last) =
-        let low = last.1 in
-        let high = last.2 in
-        gone_inside (without m from size) (from + size) more a low high
-        ∙ sym (gone_inside m from (size + more) a (omega (arith, low)) (omega (arith, high)))
-    by a (inl first) (inr last) =
+        → get (without (without m (from + size) more) from size) a ≡ get (without m from (size + more)) a
+    by a (inl first) x =
         let low = first.1 in
         let high = first.2 in
-        gone_outside (without m from size) (from + size) more a last.1 ∙ gone_inside m from size a low high
+        gone_inside (without m (from + size) more) from size a low high
         ∙ sym (gone_inside m from (size + more) a low (omega (arith, high)))
+    by a (inr first) (inl last) =
+        let low = last.1 in
+        let high = last.2 in
+        gone_outside (without m (from + size) more) from size a first.1 ∙ gone_inside m (from + size) more a low high
+        ∙ sym (gone_inside m from (size + more) a (omega (arith, low)) (omega (arith, high)))
     by a (inr first) (inr last) =
-        gone_outside (without m from size) (from + size) more a last.1 ∙ gone_outside m from size a first.1
+        gone_outside (without m (from + size) more) from size a first.1 ∙ gone_outside m (from + size) more a last.1
         ∙ sym (gone_outside m from (size + more) a (λ low high.
         elim (leb_tells (from + size) a) [
           | inl past ↦ last.1 past.1 (omega (arith, high))
           | inr before ↦ first.1 low before.1
         ]))
 
--- a page taken behind a free range takes all up to its end
-pub without_next : (m : Space) (from at page size : ℕ) → from ≤ at → at ≤ page → IsFree (without m from (at - from)) at (page - at)
-    → without (without m from (at - from)) page size ≡ without m from (page + size - from)
-without_next m from at page size low past free =
-    let gone = without m from (at - from) in
-    let middle : at + (page - at) ≡ page = omega (arith, past) in
-    let front : from + (at - from) ≡ at = omega (arith, low) in
-    let all : at - from + (page - at + size) ≡ page + size - from = omega (arith, low, past) in
-    ap (λ n. without n page size) (sym (without_free gone at (page - at) free))
-    ∙ ap (λ q. without (without gone at (page - at)) q size) (sym middle)
-    ∙ without_joined gone at (page - at) size
-    ∙ ap (λ q. without gone q (page - at + size)) (sym front)
-    ∙ without_joined m from (at - from) (page - at + size)
+-- a range that went goes with what is free before it
+pub without_before : (m : Space) (from end more : ℕ) → from ≤ end → IsFree (without m end more) from (end - from) → without m end more ≡ without m from (end + more - from)
+without_before m from end more ordered free =
+    let middle : from + (end - from) ≡ end = omega (arith, ordered) in
+    let all : end - from + more ≡ end + more - from = omega (arith, ordered) in
+    sym (without_free (without m end more) from (end - from) free)
+    ∙ ap (λ q. without (without m q more) from (end - from)) (sym middle)
+    ∙ without_joined m from (end - from) more
     ∙ ap (without m from) all
 
--- what is left of a range that has no page more
-pub without_rest : (m : Space) (from at size : ℕ) → from ≤ at → at ≤ from + size → IsFree (without m from (at - from)) at (from + size - at)
-    → without m from (at - from) ≡ without m from size
-without_rest m from at size low high free =
-    let left : from + size - at + (at - from) ≡ size = omega (arith, low, high) in
-    let zero : at + (from + size - at) + 0 - from ≡ size = omega (arith, low, high) in
-    let end = at + (from + size - at) in
-    sym (without_none (without m from (at - from)) end)
-    ∙ without_next m from at end 0 low (omega arith) (free_part (without m from (at - from)) at (from + size - at) at (end - at) free (omega arith) (omega arith))
-    ∙ ap (without m from) zero
+-- a page taken before a range that went, with a free range between them, goes with both
+pub without_previous : (m : Space) (page size end more : ℕ) → page + size ≤ end → IsFree (without m end more) (page + size) (end - (page + size))
+    → without (without m end more) page size ≡ without m page (end + more - page)
+without_previous m page size end more ordered free =
+    let all : size + (end + more - (page + size)) ≡ end + more - page = omega (arith, ordered) in
+    ap (λ n. without n page size) (without_before m (page + size) end more ordered free)
+    ∙ without_joined m page size (end + more - (page + size))
+    ∙ ap (without m page) all
 
 -- a number of bytes filled up to whole pages
 pub page_up-aligned : (n : ℕ) → page_up n % 4096 ≡ 0

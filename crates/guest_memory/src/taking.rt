@@ -1,8 +1,8 @@
-ghost use Rattle.std.specs.Prelude.{◌≡◌, ◌+◌, ◌-◌, ◌*◌, ◌%◌, ◌<◌, ◌≤◌, ◌^◌, length};
+ghost use Rattle.std.specs.Prelude.{◌≡◌, ◌+◌, ◌*◌, ◌%◌, ◌<◌, ◌≤◌, ◌^◌, length};
 ghost use Rattle.std.specs.Prelude.{IfNone, IfSome, IsSome, true};
 ghost use Rattle.std.specs.FinMap as map;
 ghost use Rattle.guest_words.specs.Space.{without};
-ghost use Rattle.guest_pages.specs.Stretch.{IsFree, IsNextPage};
+ghost use Rattle.guest_pages.specs.Stretch.{IsFree, IsLastPage};
 ghost use Rattle.guest_memory.specs.Noting.{Notes};
 ghost use Rattle.guest_memory.specs.Text.{HasNoText, SameText};
 
@@ -11,8 +11,9 @@ use guest_words::limits::PAGE;
 use undo_log::Log;
 
 impl Memory {
-    /// Takes those of so many pages from an address on that are there, and notes each. Takes no
-    /// memory, and leaves room for the pages.
+    /// Takes those of so many pages from an address on that are there, and notes each, the last
+    /// page first, so that each comes back behind those that came back before it. Takes no memory,
+    /// and leaves room for the pages.
     pub fn take_pages(&mut self, from: u64, count: u64, log: &mut Log)
         requires aligned { from % PAGE ≡ 0 }
         requires room { count ≤ log.old.spare }
@@ -26,26 +27,20 @@ impl Memory {
         ensures text { HasNoText self.old.space from (PAGE * count)
             → SameText self.old.space self.new.space }
     {
-        let mut at = from;
-        while let Some(page) = self.page_within(from, count, at) {
+        let mut left = count;
+        while let Some(page) = self.last_page(from, left) {
             self.take_noted(page, log);
-            at = page + PAGE;
+            left = (page - from) / PAGE;
         }
     }
 
-    // The least address of a page that is at least an address, in a range of so many pages.
-    fn page_within(&self, from: u64, count: u64, at: u64) -> Option<u64>
-        requires whole { from % PAGE ≡ 0 }
-        requires aligned { at % PAGE ≡ 0 }
-        requires low { from ≤ at }
-        ensures found { IfSome result (IsNextPage self.now.space at) }
-        ensures below { IfSome result (λ page. page < from + PAGE * count) }
-        ensures none { IfNone result (IsFree self.now.space at (from + PAGE * count - at)) }
+    // The greatest address of a page among so many pages from an address on.
+    fn last_page(&self, from: u64, count: u64) -> Option<u64>
+        requires aligned { from % PAGE ≡ 0 }
+        ensures found { IfSome result (IsLastPage self.now.space from (PAGE * count)) }
+        ensures none { IfNone result (IsFree self.now.space from (PAGE * count)) }
     {
-        match self.page_from(at) {
-            Some(page) if (page - from) / PAGE < count => Some(page),
-            _ => None,
-        }
+        self.pages.last_page(from, count)
     }
 
     // Takes a page and notes it.

@@ -34,7 +34,7 @@ split_at buffers q n sorted count (inr last) = record {
   after = count.after;
 }
 
-sorted-take : (xs : List PageBuffer) (n : ℕ) → n ≤ length xs → AreSorted xs → AreSorted (take n xs)
+pub sorted-take : (xs : List PageBuffer) (n : ℕ) → n ≤ length xs → AreSorted xs → AreSorted (take n xs)
 sorted-take xs n within sorted =
     let long = length-take n xs in
     record {
@@ -48,7 +48,7 @@ sorted-take xs n within sorted =
           omega (arith, apart, x, y);
     }
 
-sorted-drop : (xs : List PageBuffer) (n : ℕ) → n ≤ length xs → AreSorted xs → AreSorted (drop n xs)
+pub sorted-drop : (xs : List PageBuffer) (n : ℕ) → n ≤ length xs → AreSorted xs → AreSorted (drop n xs)
 sorted-drop xs n within sorted =
     let long = length-drop n xs in
     record {

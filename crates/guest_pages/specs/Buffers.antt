@@ -45,6 +45,13 @@ pub record AreSorted (buffers : List PageBuffer) : Type 0 where
   pub each : All IsPageBuffer buffers
   pub apart : AllPairs (λ a b. end_of a ≤ b.from) buffers
 
+-- so many of the first buffers lie side by side, page after page
+pub record AreAdjacent (buffers : List PageBuffer) (count : ℕ) : Type 0 where
+  pub starts :
+      (k : ℕ) (d : PageBuffer)
+      → k < count
+      → (slice_index_or buffers k d).from ≡ (slice_index_or buffers 0 d).from + k * PAGE
+
 -- so many buffers begin before an address
 pub record IsCountBefore (buffers : List PageBuffer) (address count : ℕ) : Type 0 where
   pub within : count ≤ length buffers

@@ -1,6 +1,6 @@
-ghost use Rattle.std.specs.Prelude.{◌≡◌, ◌*◌, IfSome};
+ghost use Rattle.std.specs.Prelude.{◌≡◌, ◌+◌, ◌*◌, ◌<◌, ◌≤◌, ◌↔◌, length, IfSome, IsTrue};
 ghost use Rattle.guest_words.specs.CallChanges.{free_place, mapped_pages};
-ghost use Rattle.guest_pages.specs.Buffers.{cells_of, AreSorted};
+ghost use Rattle.guest_pages.specs.Buffers.{cells_of, AreAdjacent, AreSorted};
 ghost use Rattle.guest_pages.specs.Stretch.{IsFree, IsPlace};
 
 use crate::page_buffer::{PageBuffer, count_before};
@@ -29,26 +29,61 @@ impl Pages {
     }
 }
 
-// The end of the first page of the area, or its beginning, behind which so many pages are missing.
+// The beginning of the area, or the end of a page of it, the first behind which so many pages are
+// missing. Pages that lie side by side are passed over at once.
 fn lowest_gap(pages: &[PageBuffer], count: u64) -> Option<u64>
     requires sorted { AreSorted pages.now }
     ensures value { result ≡ free_place (cells_of pages.now) count }
     ensures place { IfSome result (IsPlace count) }
     ensures free { IfSome result (λ place. IsFree (cells_of pages.now) place (PAGE * count)) }
 {
-    let first = count_before(pages, MAP_FROM);
+    let mut index = count_before(pages, MAP_FROM);
     let last = count_before(pages, MAP_END);
     let mut place = MAP_FROM;
-    for index in first..last {
-        let from = pages[index].from;
-        if count <= (from - place) / PAGE {
+    while index < last {
+        if count <= (pages[index].from - place) / PAGE {
             return Some(place);
         }
-        place = from + PAGE;
+        let rest = &pages[index..last];
+        index += count_adjacent(rest);
+        place = pages[index - 1].from + PAGE;
     }
     if count <= (MAP_END - place) / PAGE {
         Some(place)
     } else {
         None
     }
+}
+
+// How many of the first pages lie side by side. The stride doubles as long as they do, and is
+// halved from then on, so that few pages are looked at.
+fn count_adjacent(pages: &[PageBuffer]) -> usize
+    requires sorted { AreSorted pages.now }
+    requires some { 0 < length pages.now }
+    ensures some { 0 < result }
+    ensures within { result ≤ length pages.now }
+    ensures adjacent { AreAdjacent pages.now result }
+    ensures all { result < length pages.now → ¬ AreAdjacent pages.now (result + 1) }
+{
+    let mut count = 1;
+    let mut stride = 1;
+    while stride > 0 {
+        if stride <= pages.len() - count && are_adjacent(pages, count + stride) {
+            count += stride;
+            stride *= 2;
+        } else {
+            stride /= 2;
+        }
+    }
+    count
+}
+
+// Whether so many of the first pages lie side by side. As pages ascend, the last of them tells.
+fn are_adjacent(pages: &[PageBuffer], count: usize) -> bool
+    requires sorted { AreSorted pages.now }
+    requires some { 0 < count }
+    requires within { count ≤ length pages.now }
+    ensures value { IsTrue result ↔ AreAdjacent pages.now count }
+{
+    (pages[count - 1].from - pages[0].from) / PAGE == count as u64 - 1
 }

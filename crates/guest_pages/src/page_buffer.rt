@@ -1,8 +1,9 @@
-ghost use Rattle.std.specs.Prelude.{◌≡◌, ◌+◌, ◌-◌, ◌<◌, ◌≤◌, IfSome, IfNone, length, find, None, true};
+ghost use Rattle.std.specs.Prelude.{◌≡◌, ◌+◌, ◌-◌, ◌*◌, ◌%◌, ◌<◌, ◌≤◌};
+ghost use Rattle.std.specs.Prelude.{IfSome, IfNone, length, find, None, true};
 ghost use Rattle.guest_pages.specs.Buffers.{cells_of, end_of, holds, AreSorted};
 ghost use Rattle.guest_pages.specs.Buffers.{IsCountBefore, IsHolder, IsPageBuffer};
 ghost use Rattle.guest_words.specs.Widths.{bytes_in};
-ghost use Rattle.guest_pages.specs.Stretch.{IsNextPage, HasNoPageFrom};
+ghost use Rattle.guest_pages.specs.Stretch.{HasNoPageFrom, IsFree, IsLastPage, IsNextPage};
 
 use guest_words::limits::PAGE;
 use guest_words::{Rights, Width};
@@ -59,6 +60,22 @@ pub fn next_page(buffers: &[PageBuffer], address: u64) -> Option<u64>
     let count = count_before(buffers, address);
     if count < buffers.len() {
         Some(buffers[count].from)
+    } else {
+        None
+    }
+}
+
+/// The greatest address of a page among so many pages from an address on, if one is there.
+pub fn last_page(buffers: &[PageBuffer], from: u64, count: u64) -> Option<u64>
+    requires sorted { AreSorted buffers.now }
+    requires aligned { from % PAGE ≡ 0 }
+    ensures found { IfSome result (IsLastPage (cells_of buffers.now) from (PAGE * count)) }
+    ensures none { IfNone result (IsFree (cells_of buffers.now) from (PAGE * count)) }
+{
+    let end = from.saturating_add(PAGE.saturating_mul(count));
+    let before = count_before(buffers, end);
+    if before > 0 && from <= buffers[before - 1].from {
+        Some(buffers[before - 1].from)
     } else {
         None
     }

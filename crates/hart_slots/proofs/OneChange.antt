@@ -1,5 +1,5 @@
 -- A change of one slot.
-use Rattle.std.proofs.Common.{◌≡◌, ℕ, zero, suc, ◌-◌, false, List, [], ◌∷◌, ◌++◌, length, take, set, refl, ap, sym, ◌∙◌, Option, Some, None, slice_get, option_map}
+use Rattle.std.proofs.Common.{◌≡◌, ℕ, zero, suc, ◌-◌, ◌<◌, false, List, [], ◌∷◌, ◌++◌, length, take, set, refl, ap, sym, ◌∙◌, Option, Some, None, slice_get, option_map, arith}
 use Rattle.guest_words.specs.declared.hart.Hart.{Hart}
 use Rattle.guest_words.specs.declared.hart.Slot.{Slot}
 use Rattle.guest_words.specs.State.{changed, changed_by, on_hart}
@@ -102,6 +102,14 @@ departed-twice code k slots hart read =
     ∙ changed-alike (λ slot. on_frames (take 0) (on_hart (λ before. x) slot)) (departed code) k slots (λ slot is.
     ap (λ (h : Hart). departed code (record slot { hart = h })) (same-hart slots k hart slot read is))
 
+-- a change of the frames leaves the hart
+pub hart-on_frames : (f : List Frame → List Frame) (k : ℕ) (slots : List Slot) → option_map hart_of (slice_get (changed (on_frames f) k slots) k) ≡ option_map hart_of (slice_get slots k)
+unfolding changed
+hart-on_frames f zero [] = refl
+hart-on_frames f (suc k) [] = refl
+hart-on_frames f zero (slot ∷ slots) = refl
+hart-on_frames f (suc k) (slot ∷ slots) = ap (λ xs. option_map hart_of (slice_get xs (suc k))) (changed-next (on_frames f) k slot slots) ∙ hart-on_frames f k slots
+
 -- the frame opened, and then the hart no more at the point
 pub opened-twice : (point : PointRef) (frame : Frame) (k : ℕ) (slots : List Slot) (hart : Hart) → Some hart ≡ option_map hart_of (slice_get slots k)
     → frame ≡ frame_of hart point
@@ -113,6 +121,25 @@ opened-twice point frame k slots hart read made =
     ∙ changed-alike (λ slot. on_hart (λ before. x) (on_frames (λ frames. frames ++ frame ∷ []) slot)) (opened point) k slots (λ slot is.
     ap (λ (f : Frame). record { hart = x; frames = slot.frames ++ f ∷ [] }) made
     ∙ ap (λ (h : Hart). opened point (record slot { hart = h })) (same-hart slots k hart slot read is))
+
+-- the same, where the hart is changed in place
+pub hart-within : (slots : List Slot) (k : ℕ) (hart : Hart) → Some hart ≡ option_map hart_of (slice_get slots k) → k < length slots
+hart-within [] zero hart is = absurd (cc)
+hart-within [] (suc k) hart is = absurd (cc)
+hart-within (slot ∷ slots) zero hart is = omega arith
+hart-within (slot ∷ slots) (suc k) hart is = let n = hart-within slots k hart is in omega (arith, n)
+
+pub opened-read : (frame : Frame) (k : ℕ) (slots new : List Slot) (hart : Hart) → Some hart ≡ option_map hart_of (slice_get slots k)
+    → new ≡ changed (on_frames (λ frames. frames ++ frame ∷ [])) k slots → Some hart ≡ option_map hart_of (slice_get new k)
+opened-read frame k slots new hart read is =
+    read ∙ sym (hart-on_frames (λ frames. frames ++ frame ∷ []) k slots) ∙ sym (ap (λ xs. option_map hart_of (slice_get xs k)) is)
+
+pub opened-in_place : (point : PointRef) (frame : Frame) (k : ℕ) (slots new : List Slot) (hart lent : Hart) → Some hart ≡ option_map hart_of (slice_get slots k)
+    → frame ≡ frame_of hart point → new ≡ changed (on_frames (λ frames. frames ++ frame ∷ [])) k slots → option_map hart_of (slice_get new k) ≡ Some lent
+    → changed (on_hart (λ before. record lent { arrived = false })) k new ≡ changed (opened point) k slots
+opened-in_place point frame k slots new hart lent read made is now =
+    ap (λ (x : Hart). changed (on_hart (λ before. record x { arrived = false })) k new) (sym (ap (hart_or hart) (opened-read frame k slots new hart read is ∙ now)))
+    ∙ ap (changed (on_hart (λ before. record hart { arrived = false })) k) is ∙ opened-twice point frame k slots hart read made
 
 -- the frames that stay open
 pub closed-kept : (k count : ℕ) (slots : List Slot) (hart : Hart) (frames : List Frame) → Some hart ≡ option_map hart_of (slice_get slots k)

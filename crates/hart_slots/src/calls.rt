@@ -9,7 +9,7 @@ ghost use Rattle.futex_table.specs.Slots.{MarksSlots};
 use crate::Slots;
 use crate::child::child_of;
 use crate::harts::ready_marked;
-use crate::registers::{answered, given_back};
+use crate::registers::{answered, give_back};
 use futex_table::Woken;
 use guest_words::{Hart, HartState, Ret};
 
@@ -81,8 +81,8 @@ impl Slots {
     pub fn give_back(&mut self, h: u8, ret: Ret)
         ensures value { self.new ≡ changed (on_hart (given_back ret)) h self.old }
     {
-        if let Some(&hart) = self.hart(h) {
-            self.put(h, given_back(&hart, ret));
+        if usize::from(h) < self.len() {
+            give_back(self.hart_mut(h), ret);
         }
     }
 }

@@ -65,15 +65,10 @@ impl Slots {
         ensures ok { OnOk result (self.new ≡ changed (opened point) h self.old) }
         ensures err { OnErr result (self.new ≡ self.old) }
     {
-        if let Some(&hart) = self.hart(h) {
-            self.push_frame(h, point_frames::opened(&hart, point))?;
-            self.put(
-                h,
-                Hart {
-                    arrived: false,
-                    ..hart
-                },
-            );
+        if let Some(hart) = self.hart(h) {
+            let frame = point_frames::opened(hart, point);
+            self.push_frame(h, frame)?;
+            self.hart_mut(h).arrived = false;
         }
         Ok(())
     }

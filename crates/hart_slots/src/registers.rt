@@ -36,17 +36,13 @@ pub(crate) fn answered(hart: &Hart, value: i64) -> Hart
     with_reg(&past(hart), A0, value.cast_unsigned())
 }
 
-/// The hart returned at once from the call that it has just come to.
-pub(crate) fn given_back(hart: &Hart, ret: Ret) -> Hart
-    ensures value { result ≡ given_back ret hart.now }
+/// Makes the hart return at once from the call that it has just come to.
+pub(crate) fn give_back(hart: &mut Hart, ret: Ret)
+    ensures value { hart.new ≡ given_back ret hart.old }
 {
-    let back = Hart {
-        pc: hart.regs[RA],
-        arrived: false,
-        ..*hart
-    };
-    match ret {
-        Ret::Code(value) => with_reg(&back, A0, value),
-        Ret::Void => back,
+    hart.pc = hart.regs[RA];
+    hart.arrived = false;
+    if let Ret::Code(value) = ret {
+        hart.regs[A0] = value;
     }
 }

@@ -1,6 +1,7 @@
 -- What is at a place of the table, and what a hart does that carries out no instruction.
-use Rattle.std.proofs.Common.{◌≡◌, ◌∙◌, ℕ, ◌<◌, true, false, List, length, get_or, set, slice_index_or, slice_set, Option, Some, None, Ok, Err, refl, sym, ap, subst, arith, get_or-set_same}
+use Rattle.std.proofs.Common.{◌≡◌, ◌∙◌, ℕ, ◌<◌, true, false, List, length, get_or, set, slice_index_or, slice_set, Option, Some, None, Ok, Err, refl, sym, ap, subst, arith, inl, inr, length-set, get_or-set_other, get_or-set_same}
 use Rattle.std.specs.Option.{is_some}
+use Rattle.std.proofs.lemmas.Bool.Decides.{eqb_tells}
 use Rattle.std.proofs.lemmas.List.{get_or_default}
 use Rattle.guest_words.specs.declared.point.Point.{Point}
 use Rattle.guest_words.specs.declared.point.PointRef.{PointRef}
@@ -18,8 +19,8 @@ use Rattle.hart_step.specs.declared.known.Known.{Known}
 use Rattle.hart_step.specs.declared.did.Did.TheVariants as did
 use Rattle.hart_step.specs.InPlace.{parts, IsMade}
 use Rattle.hart_step.specs.Looked.{looked}
-use Rattle.hart_step.specs.Table.{place_of, IsPlaced, IsStill, IsTable}
-use Rattle.hart_step.proofs.Acting.{act_arrived, act_fault, act_inst, looked-inst_at, none_arrives, registers-inst_at}
+use Rattle.hart_step.specs.Table.{place_of, IsFor, IsPlaced, IsStill, IsTable, Tells}
+use Rattle.hart_step.proofs.Acting.{act_arrived, act_fault, act_inst, inst_at-looked, looked-inst_at, none_arrives, registers-inst_at}
 
 -- an instruction that is known
 pub placed_known : (m : Space) (points : List Point) (frames : ℕ) (hart : Hart) (table : List Known) (place : ℕ) (e : Known)
@@ -42,19 +43,44 @@ placed_known m points frames hart table place e is below at found =
     }
 
 -- and one that is put into the table
-pub placed_learnt : (m : Space) (points : List Point) (frames : ℕ) (hart : Hart) (table : List Known) (place : ℕ) (inst : Inst)
-    → length table ≡ 4097 → place < 4097 → arrival_of points frames hart ≡ None → looked m hart.pc ≡ Ok inst → NamesRegisters inst
-    → IsPlaced m points frames hart (slice_set table place (record { pc = hart.pc; inst = inst })) place
-placed_learnt m points frames hart table place inst long below none is names =
+pub placed_learnt : (m : Space) (points : List Point) (frames : ℕ) (hart : Hart) (table : List Known) (inst : Inst) (under : ℕ)
+    → length table ≡ 4096 → arrival_of points frames hart ≡ None → looked m hart.pc ≡ Ok inst → NamesRegisters inst
+    → IsPlaced m points frames hart (slice_set table (place_of hart.pc) (record { inst = inst; pc = under })) (place_of hart.pc)
+placed_learnt m points frames hart table inst under long none is names =
+    let place = place_of hart.pc in
+    let below : place < 4096 = omega arith in
     record {
       within = below;
       inst = λ d.
-          let known : Known = record { pc = hart.pc; inst = inst } in
+          let known : Known = record { inst = inst; pc = under } in
           let same : get_or (set table place known) place d ≡ known = get_or-set_same table place known d (omega (arith, long, below)) in
           record {
             act = subst (λ (x : Known). hart_act m points frames hart ≡ act_of_class (class_of x.inst.op) m hart x.inst) (sym same) (act_inst m points frames hart inst none is);
             registers = subst (λ (x : Known). NamesRegisters x.inst) (sym same) names;
           };
+    }
+
+-- which tells the truth there, or nothing
+pub table_learnt : (m : Space) (points : List Point) (table : List Known) (pc : ℕ) (inst : Inst) (under : ℕ) → IsTable m points table → looked m pc ≡ Ok inst → IsFor points pc under
+    → IsTable m points (slice_set table (place_of pc) (record { inst = inst; pc = under }))
+table_learnt m points table pc inst under is found for =
+    let place = place_of pc in
+    let known : Known = record { inst = inst; pc = under } in
+    let long = is.long in
+    record {
+      long = length-set table place known ∙ long;
+      tells = λ k d less at. elim (eqb_tells k place) [
+        | inl here ↦
+            let there : get_or (set table place known) k d ≡ known = ap (λ i. get_or (set table place known) i d) here.1 ∙ get_or-set_same table place known d (omega (arith, long)) in
+            let own : place_of under ≡ place_of pc = sym (ap (λ (x : Known). place_of x.pc) there) ∙ at ∙ here.1 in
+            subst (Tells m points) (sym there) (record {
+              inst = ap (inst_at m) (for.own own) ∙ inst_at-looked m pc inst found;
+              free = ap (active_at points) (for.own own) ∙ for.free own;
+            })
+        | inr apart ↦
+            let same : get_or (set table place known) k d ≡ get_or table k d = get_or-set_other table place k known d apart.1 in
+            subst (Tells m points) (sym same) (is.tells k d less (sym (ap (λ (x : Known). place_of x.pc) same) ∙ at))
+      ];
     }
 
 pub still_arrived : (m : AddressSpace) (points : List Point) (frames : ℕ) (hart : Hart) (o : Option PointRef) → arrival_of points frames hart ≡ o → is_some o ≡ true

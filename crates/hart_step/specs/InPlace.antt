@@ -97,8 +97,11 @@ pub record IsMade (did : Act) (old new : Parts) (said : Did) : Type 0 where
   pub before : new.before ≡ before_after did old.memory old.before
   pub back : LeadsBack said new old.memory
 
-abbrev pub is_atomic : Class → Bool
-is_atomic (class.LoadReserved width) = true
-is_atomic (class.StoreConditional width) = true
-is_atomic (class.Atomic width) = true
-is_atomic _ = false
+-- calls, breakpoints and atomics
+abbrev pub is_rare : Class → Bool
+is_rare class.Call = true
+is_rare class.Break = true
+is_rare (class.LoadReserved width) = true
+is_rare (class.StoreConditional width) = true
+is_rare (class.Atomic width) = true
+is_rare _ = false

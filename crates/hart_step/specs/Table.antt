@@ -25,7 +25,7 @@ pub record Tells (m : Space) (points : List Point) (known : Known) : Type 0 wher
 
 -- each instruction that stands at the place of its address tells the truth
 pub record IsTable (m : Space) (points : List Point) (table : List Known) : Type 0 where
-  pub long : length table ≡ 4097
+  pub long : length table ≡ 4096
   pub tells :
       (k : ℕ) (d : Known)
       → k < 4096
@@ -38,7 +38,7 @@ elsewhere known = record known { pc = 4 }
 
 -- no instruction stands at the place of its address
 pub record IsBlank (table : List Known) : Type 0 where
-  pub long : length table ≡ 4097
+  pub long : length table ≡ 4096
   pub apart :
       (k : ℕ) (d : Known) → k < 4096 → place_of (slice_index_or table k d).pc ≢ k
 
@@ -59,12 +59,11 @@ pub record IsStill (m : AddressSpace) (points : List Point) (frames : ℕ) (hart
 -- the instruction that a hart carries out is at a place of the table
 pub record IsPlaced (m : Space) (points : List Point) (frames : ℕ) (hart : Hart)
     (table : List Known) (place : ℕ) : Type 0 where
-  pub within : place < 4097
+  pub within : place < 4096
   pub inst : (d : Known) → IsInst m points frames hart (slice_index_or table place d).inst
 
--- a place for the instruction at an address: its own where no active point begins there, else the
--- place behind all
-pub record IsFor (points : List Point) (pc place : ℕ) : Type 0 where
-  pub within : place < 4097
-  pub own : place < 4096 → place ≡ place_of pc
-  pub free : place < 4096 → active_at points pc ≡ None
+-- an address under which the instruction at another is kept at that one's place: the same, where
+-- no active point begins there, else one of another place
+pub record IsFor (points : List Point) (pc under : ℕ) : Type 0 where
+  pub own : place_of under ≡ place_of pc → under ≡ pc
+  pub free : place_of under ≡ place_of pc → active_at points pc ≡ None

@@ -3,7 +3,7 @@ ghost use Rattle.guest_words.specs.Effects.{class_of};
 ghost use Rattle.guest_words.specs.HartAct.{act_of_class, first, second};
 ghost use Rattle.guest_words.specs.Instructions.{NamesRegisters};
 ghost use Rattle.guest_memory.specs.Text.{SameText};
-ghost use Rattle.hart_step.specs.InPlace.{is_atomic, parts, HasZero, IsMade};
+ghost use Rattle.hart_step.specs.InPlace.{is_rare, parts, HasZero, IsMade};
 
 use crate::before::Before;
 use crate::did::Did;
@@ -103,13 +103,12 @@ pub fn carry_out(
             go_past(hart);
             Did::Went
         }
-        Op::Ecall => Did::Called,
-        Op::Ebreak => Did::Fault(FaultName::Breakpoint),
         _ => rare(memory, recent, before, hart, inst, a, b),
     }
 }
 
-/// Carries out an atomic instruction.
+/// An instruction that calls or stops the hart, or is atomic. In a call of its own none of them
+/// burdens the others.
 #[inline(never)]
 fn rare(
     memory: &mut Memory,
@@ -120,7 +119,7 @@ fn rare(
     a: u64,
     b: u64,
 ) -> Did
-    requires atomic { IsTrue (is_atomic (class_of inst.now.op)) }
+    requires rare { IsTrue (is_rare (class_of inst.now.op)) }
     requires registers { NamesRegisters inst.now }
     requires zero { HasZero hart.old }
     requires a { a ≡ first hart.old inst.now }
@@ -131,6 +130,8 @@ fn rare(
     ensures text { SameText memory.old.space memory.new.space }
 {
     match inst.op {
+        Op::Ecall => Did::Called,
+        Op::Ebreak => Did::Fault(FaultName::Breakpoint),
         Op::LrW => reserve(memory, recent, hart, inst, Op::LrW, a, Width::Four),
         Op::ScW => conditional(memory, recent, before, hart, inst, a, b, Width::Four),
         Op::AmoswapW => atomic_word(memory, recent, before, hart, inst, Op::AmoswapW, a, b),

@@ -109,11 +109,7 @@ pub fn store(
         Ok(old) => {
             go_past(hart);
             touch(hart, place, width.bytes());
-            *before = Before {
-                address: place,
-                width,
-                number: old,
-            };
+            before.put(place, width, old);
             Did::Stored
         }
         Err(name) => Did::Fault(name),

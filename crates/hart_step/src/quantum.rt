@@ -57,6 +57,7 @@ pub fn run(
     ensures table { IsTable memory.new.space points.now table.new }
     ensures zero { HasZero hart.new }
 {
+    let top = *top;
     let mut before = Before::new();
     for count in 0..most {
         if let Some(did) = go(
@@ -76,7 +77,7 @@ pub fn run(
                 did,
             };
         }
-        if is_closed(hart, top) {
+        if is_closed(hart, &top) {
             return Ran {
                 count: count + 1,
                 closed: true,
@@ -141,10 +142,7 @@ fn note(log: &mut Log, before: &Before)
     ensures few { length log.new.notes ≤ length log.old.notes + 1 }
     ensures room { log.new.spare + 1 ≡ log.old.spare }
 {
-    match log.note_bytes(before.address, before.width, before.number) {
-        Ok(()) => {}
-        Err(_) => unreachable!(),
-    }
+    log.note_stored(before.address, before.width, before.number);
 }
 
 #[inline(always)]

@@ -87,11 +87,7 @@ pub fn conditional(
         Ok(old) => {
             go_past_with(hart, inst, 0);
             hart.reservation = None;
-            *before = Before {
-                address: place,
-                width,
-                number: old,
-            };
+            before.put(place, width, old);
             Did::Stored
         }
         Err(name) => Did::Fault(name),
@@ -135,11 +131,7 @@ fn atomic(
     };
     go_past_with(hart, inst, whole(op, width, number));
     touch(hart, place, width.bytes());
-    *before = Before {
-        address: place,
-        width,
-        number,
-    };
+    before.put(place, width, number);
     Did::Stored
 }
 

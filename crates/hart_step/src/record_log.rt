@@ -18,6 +18,9 @@ impl Model for RecordLog {
     ghost also_owns = { λ _. ftrue };
 }
 
+// It owns nothing.
+unsafe impl Send for RecordLog {}
+
 impl RecordLog {
     pub(crate) fn new() -> RecordLog
         ensures none { result.records ≡ [] }

@@ -1,12 +1,12 @@
-ghost use Rattle.std.specs.Prelude.{◌≡◌, IfErr, IfOk};
+ghost use Rattle.std.specs.Prelude.{◌≡◌, ◌≢◌, IfErr, IfOk};
 ghost use Rattle.guest_words.specs.HartAct.{hart_act};
 ghost use Rattle.hart_step.specs.InPlace.{parts, HasZero, IsMade};
-ghost use Rattle.hart_step.specs.Table.{IsFor, IsPlaced, IsStill, IsTable};
+ghost use Rattle.hart_step.specs.Table.{place_of, IsFor, IsPlaced, IsStill, IsTable};
 
 use crate::before::Before;
 use crate::carry::carry_out;
 use crate::did::Did;
-use crate::known::{Known, SPARE, place_of};
+use crate::known::{Known, place_of};
 use crate::look::{arrival, look};
 use guest_memory::Memory;
 use guest_pages::Recent;
@@ -54,44 +54,47 @@ fn place_for(
     if table[place].pc == hart.pc {
         return Ok(place);
     }
-    learn(hart, memory, points, frames, table)
+    match learn(hart, memory, points, frames, table) {
+        Did::Went => Ok(place),
+        Did::Arrived => Err(Did::Arrived),
+        Did::Fault(name) => Err(Did::Fault(name)),
+        did => Err(did),
+    }
 }
 
-/// The same, for an address that the table lacks; the table learns it.
+/// Puts the instruction at an address that the table lacks at its place, where the hart can go on
+/// with it, or says what the hart does instead.
 #[inline(never)]
-fn learn(
-    hart: &Hart,
-    memory: &Memory,
-    points: &Points,
-    frames: usize,
-    table: &mut [Known],
-) -> Result<usize, Did>
+fn learn(hart: &Hart, memory: &Memory, points: &Points, frames: usize, table: &mut [Known]) -> Did
     requires table { IsTable memory.now.space points.now table.old }
     ensures table { IsTable memory.now.space points.now table.new }
-    ensures placed { IfOk result (IsPlaced memory.now.space points.now frames hart.now table.new) }
-    ensures still { IfErr result (IsStill memory.now points.now frames hart.now) }
+    ensures placed { result ≡ Did.Went
+        → IsPlaced memory.now.space points.now frames hart.now table.new (place_of hart.now.pc) }
+    ensures still { result ≢ Did.Went → IsStill memory.now points.now frames hart.now result }
 {
     if arrival(points, frames, hart).is_some() {
-        return Err(Did::Arrived);
+        return Did::Arrived;
     }
     match look(memory, hart.pc) {
         Ok(inst) => {
-            let place = place_to_keep(points, hart.pc);
-            table[place] = Known { pc: hart.pc, inst };
-            Ok(place)
+            let pc = known_as(points, hart.pc);
+            table[place_of(hart.pc)] = Known { inst, pc };
+            Did::Went
         }
-        Err(name) => Err(Did::Fault(name)),
+        Err(name) => Did::Fault(name),
     }
 }
 
-/// Where the instruction at an address goes: an active point's isn't kept, since a hart that comes
-/// there by a jump arrives.
-fn place_to_keep(points: &Points, pc: u64) -> usize
-    ensures place { IsFor points.now pc result }
+/// The address under which an instruction is kept: an active point's gets one of another place, so
+/// that nobody finds it again, since a hart that comes there by a jump arrives.
+fn known_as(points: &Points, pc: u64) -> u64
+    ensures address { IsFor points.now pc result }
 {
     if points.active_at(pc).is_none() {
-        place_of(pc)
+        pc
+    } else if place_of(pc) == 1 {
+        0
     } else {
-        SPARE
+        4
     }
 }

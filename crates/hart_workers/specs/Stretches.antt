@@ -13,7 +13,7 @@ pub record Made : Type 0 where
   pub count : ℕ
 
 -- they are acts of a ready hart, by the text and the points of the start
-pub record IsMade (start : State) (made : Made) : Type 0 where
-  pub ready : is_ready made.base.state ≡ true
-  pub zero : HasZero made.base
-  pub made : IsStretchFrom start made.base made.after made.count
+pub record IsMade (start : State) (m : Made) : Type 0 where
+  pub ready : is_ready m.base.state ≡ true
+  pub zero : HasZero m.base
+  pub made : IsStretchFrom start m.base m.after m.count

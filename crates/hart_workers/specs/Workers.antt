@@ -1,7 +1,5 @@
 -- What workers know of a machine and of their passes.
-use Rattle.std.specs.Prelude.{◌≡◌, ℕ, ◌+◌, ◌<◌, ◌≤◌, IsTrue, List, length, false, None, Option, IfSome, IsSome}
-use Rattle.guest_words.specs.declared.hart.Slot.{Slot}
-use Rattle.guest_words.specs.declared.limits.TheConstants.{HARTS}
+use Rattle.std.specs.Prelude.{◌≡◌, ℕ, ◌<◌, ◌≤◌, IsTrue, length, false, None}
 use Rattle.guest_words.specs.State.{State}
 use Rattle.machine_core.specs.Machine.{Machine}
 use Rattle.machine_core.specs.QuietSteps.{stepped_of, HasArrived}
@@ -24,17 +22,6 @@ pub record CanBegin (h : ℕ) (m : Machine) : Type 0 where
   pub kept : m.abandoned ≡ false
   pub arrived : HasArrived (stepped_of m.state h)
 
--- there are so many workers, one at least, for harts from this one on
-pub record CanWork (first count : ℕ) (slots : List Slot) : Type 0 where
-  pub some : 0 < count
-  pub within : first + count ≤ length slots
-  pub few : first + count ≤ HARTS
-
-module _ {O : Type 0} where
-  -- a pass of this gate waits here for its worker
-  abbrev pub IsWaiting : Identity O → Option (Pass O) → Type 0
-  IsWaiting gate place = IsSome place × IfSome place (λ pass. IsOf gate pass)
-
-  -- a pass of this gate has seen the value over
-  abbrev pub HasSeenOver : Identity O → Pass O → Type 0
-  HasSeenOver gate pass = IsOf gate pass × IsTrue pass.view.over
+-- a pass of this gate has seen the value over
+abbrev pub HasSeenOver : {O : Type 0} → Identity O → Pass O → Type 0
+HasSeenOver gate pass = IsOf gate pass × IsTrue pass.view.over

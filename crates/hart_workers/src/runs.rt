@@ -1,10 +1,12 @@
 //! All workers of a machine.
-ghost use Rattle.std.specs.Prelude.{◌≡◌, ◌+◌, ◌<◌, ◌≤◌, [], IsTrue, None, length, All, vec_len, vec_capacity};
-ghost use Rattle.std.specs.Thread.{IsSend, IsSync};
+ghost use Rattle.std.specs.Prelude.{◌≡◌, ◌<◌, ◌≤◌, [], IsTrue, length, All, vec_len, vec_capacity};
 ghost use Rattle.hart_step.specs.Registers.{IsTextOf};
 ghost use Rattle.machine_core.specs.Beginnings.{is_over};
+ghost use Rattle.machine_core.specs.contracts.machine.Quiet as machine;
+ghost use Rattle.std.specs.Thread.{IsSend};
 ghost use Rattle.stop_gate.specs.Passes.{IsNewOf};
-ghost use Rattle.hart_workers.specs.Workers.{CanWork, IsWaiting, HasSeenOver};
+ghost use Rattle.hart_workers.specs.Parts.{Crosses, IsOfStart, IsPart, IsWaiting};
+ghost use Rattle.hart_workers.specs.Workers.{HasSeenOver};
 
 use crate::settle::take_out;
 use crate::steps::give_up;
@@ -41,10 +43,10 @@ fn run_part<
     door: &D,
 ) -> Out<Quiet<K, S, T, P>>
     requires shared { K.mode ≡ Mode.Shared }
-    requires harts { CanWork first (length places.old) K.state.slots }
-    requires each { All (IsWaiting gate.now) places.old }
-    requires text { IsTextOf text.now K.state.memory }
-    requires points { points.now ≡ K.state.points }
+    requires part { IsPart K.state gate.now first places.old }
+    requires start { IsOfStart K.state text.now points.now }
+    requires sends { IsSend (machine.the_row K.row S.row T.row P.row
+        K.Origin S.Source T.Sink P.Port) }
     ensures over { HasSeenOver gate.now result }
 {
     if places.len() == 1 {
@@ -59,11 +61,19 @@ fn run_part<
     let (pass, _) = join(
         rt,
         || -> Out<Quiet<K, S, T, P>>
-            requires { IsSync R.row × IsSync D.row × IsSync K.row × IsSend K.row × IsSend S.row × IsSend T.row × IsSend P.row × (K.mode ≡ Mode.Shared) × CanWork first (length low.now) K.state.slots × All (IsWaiting gate.now) low.now × IsTextOf text.now K.state.memory × (points.now ≡ K.state.points) }
+            requires { Crosses R.row D.row K.row S.row T.row P.row
+                (machine.the_row K.row S.row T.row P.row K.Origin S.Source T.Sink P.Port)
+                × (K.mode ≡ Mode.Shared)
+                × IsPart K.state gate.now first low.now
+                × IsOfStart K.state text.now points.now }
             ensures { HasSeenOver gate.entry.now result }
         { run_part(rt, gate, low, text, points, first, door) },
         || -> Out<Quiet<K, S, T, P>>
-            requires { IsSync R.row × IsSync D.row × IsSync K.row × IsSend K.row × IsSend S.row × IsSend T.row × IsSend P.row × (K.mode ≡ Mode.Shared) × CanWork next (length high.now) K.state.slots × All (IsWaiting gate.now) high.now × IsTextOf text.now K.state.memory × (points.now ≡ K.state.points) }
+            requires { Crosses R.row D.row K.row S.row T.row P.row
+                (machine.the_row K.row S.row T.row P.row K.Origin S.Source T.Sink P.Port)
+                × (K.mode ≡ Mode.Shared)
+                × IsPart K.state gate.now next high.now
+                × IsOfStart K.state text.now points.now }
             ensures { HasSeenOver gate.entry.now result }
         { run_part(rt, gate, high, text, points, next, door) },
     );
@@ -88,8 +98,8 @@ fn placed<K: Origin, S: Source, T: Sink, P: Port>(
     places
 }
 
-/// Runs a machine by a worker for each of its harts, until it is over. Where memory is wanting
-/// before they start, it is abandoned.
+/// Runs a machine by a worker for each of its harts, until it is over. A machine whose run has ended
+/// comes back as it is, and one for whose workers memory is wanting is abandoned.
 pub fn run_all<
     R: Threads + Wait + Sync,
     K: Origin + Send + Sync,
@@ -100,9 +110,11 @@ pub fn run_all<
 >(rt: &R, alloc: Global, machine: Quiet<K, S, T, P>, door: &D) -> Quiet<K, S, T, P>
     requires shared { K.mode ≡ Mode.Shared }
     requires slots { 0 < length machine.state.slots }
-    requires going { machine.state.ending ≡ None }
     ensures over { IsTrue (is_over result) }
 {
+    if machine.ending().is_some() {
+        return machine;
+    }
     let harts = machine.harts() as u8;
     let (Ok(text), Ok(points)) = (machine.text(), machine.points()) else {
         return give_up(machine);

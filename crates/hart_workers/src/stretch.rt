@@ -2,6 +2,7 @@
 ghost use Rattle.std.specs.Prelude.{◌≡◌, ◌<◌, ◌≤◌, false, length, None};
 ghost use Rattle.hart_step.specs.Registers.{IsTextOf};
 ghost use Rattle.machine_core.specs.Appends.{Appends};
+ghost use Rattle.machine_core.specs.Commits.{CommitsTo};
 
 use crate::pace::STRETCH;
 use edge_ports::{Port, Sink, Source};

@@ -17,7 +17,7 @@ use hart_step::Text;
 use machine_core::{Commit, Mode, Origin, Quiet};
 use std::marker::Model;
 use std::sync::Wait;
-use stop_gate::{Door, Enter, Gate, Out, Take};
+use stop_gate::{Door, Enter, Gate, Held, Out, Take};
 
 /// What a worker keeps between its turns: its hart, how many acts a step may make, the stretch that
 /// is begun, and when another is.

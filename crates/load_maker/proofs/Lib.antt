@@ -1,4 +1,4 @@
+pub mod Accepted
 pub mod Placed
 pub mod Rows
 pub mod Words
-pub mod WordsLaws

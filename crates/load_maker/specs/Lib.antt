@@ -1,3 +1,4 @@
+pub mod Accepted
 pub mod Encoding
 pub mod File
 pub mod Input

@@ -2,9 +2,7 @@ ghost use Rattle.std.specs.Prelude.{◌≡◌, ◌≤◌, IfOk};
 ghost use Rattle.load_maker.specs.Input.{input_of};
 
 use guest_words::MemoryWant;
-use rand_core::SeedableRng;
-use rand_core::utils::NextWord;
-use rand_pcg::Lcg64Xsh32;
+use seed_words::Words;
 use std::alloc::Global;
 
 /// The input of the load of a number: 1,000 times so many bytes below 16, a sixteenth of them zero
@@ -13,10 +11,10 @@ pub(crate) fn load_input(alloc: Global, number: u64) -> Result<Vec<u8>, MemoryWa
     requires most { number ≤ 1000 }
     ensures ok { IfOk result (λ input. input.items ≡ input_of number) }
 {
-    let mut words = Lcg64Xsh32::seed_from_u64(number);
+    let mut words = Words::of(number);
     let mut input = Vec::new(alloc);
     for _ in 0..1000 * number {
-        input.push((words.next_word() % 16) as u8)?;
+        input.push((words.draw() % 16) as u8)?;
     }
     Ok(input)
 }

@@ -1,4 +1,5 @@
 ghost use Rattle.std.specs.Prelude.{◌≡◌, ◌≤◌, IfOk};
+ghost use Rattle.load_maker.specs.Accepted.{AreAccepted};
 ghost use Rattle.load_maker.specs.File.{load_file};
 ghost use Rattle.load_maker.specs.Input.{input_of};
 ghost use Rattle.load_maker.specs.Program.{points_file};
@@ -27,6 +28,9 @@ pub fn make(alloc: Global, number: u64) -> Result<Made, MemoryWant>
     ensures elf { IfOk result (λ made. made.elf ≡ load_file) }
     ensures points { IfOk result (λ made. made.points ≡ points_file) }
     ensures input { IfOk result (λ made. made.input ≡ input_of number) }
+
+    // Read as any others, the program and the rescue file are accepted.
+    ensures accepted { IfOk result (λ made. AreAccepted made.elf made.points) }
 {
     Ok(Made {
         elf: Bytes::of(load_file(alloc)?),

@@ -15,4 +15,3 @@ mod Still
 mod Taking
 mod TurnLaws
 mod Turned
-mod WordsLaws

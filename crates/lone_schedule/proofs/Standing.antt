@@ -15,7 +15,7 @@ use Rattle.lone_schedule.specs.Ahead.{turns_ahead}
 use Rattle.lone_schedule.specs.Drives.{turns_left, CanTurn, GivesUp, RunsAlone, Stands, TakesTurn}
 use Rattle.lone_schedule.specs.Lone.{are_turns, joined}
 use Rattle.lone_schedule.specs.Turns.{is_over, is_turn}
-use Rattle.lone_schedule.specs.Words.{word, words_at}
+use Rattle.seed_words.specs.Words.{word, words_at}
 use Rattle.lone_schedule.proofs.TurnLaws.{joined-push, turns-push}
 
 no_turns : (s : State) (seed : ℕ) → are_turns s seed 0 [] ≡ true

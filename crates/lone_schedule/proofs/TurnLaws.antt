@@ -12,7 +12,7 @@ use Rattle.lone_schedule.specs.Choice.{chosen}
 use Rattle.lone_schedule.specs.Lone.{are_turns, joined}
 use Rattle.lone_schedule.specs.Rows.{can_join, is_row}
 use Rattle.lone_schedule.specs.Turns.{is_due, is_greatest, is_last, is_over, is_turn, is_turn_of}
-use Rattle.lone_schedule.specs.Words.{word}
+use Rattle.seed_words.specs.Words.{word}
 
 pub joined-push : (ts : List (List Entry)) (t : List Entry) → joined (ts ++ t ∷ []) ≡ joined ts ++ t
 joined-push [] t = append-nil t

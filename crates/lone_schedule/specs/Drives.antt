@@ -12,7 +12,7 @@ use Rattle.machine_core.specs.Machine.{GoesOn, IsAsTold, Machine, Opened, whole}
 use Rattle.lone_schedule.specs.Ahead.{turns_ahead}
 use Rattle.lone_schedule.specs.Turns.{goes_on, is_turn, is_turn_of}
 use Rattle.lone_schedule.specs.Lone.{are_turns, joined, IsLoneRun}
-use Rattle.lone_schedule.specs.Words.{words_at}
+use Rattle.seed_words.specs.Words.{words_at}
 use Rattle.rand_pcg.specs.Lcg.{Lcg}
 
 -- a machine can make a turn of a run that began so

@@ -1,4 +1,3 @@
-pub mod Words
 pub mod Choice
 pub mod Rows
 pub mod Insides

@@ -4,7 +4,7 @@ use Rattle.guest_words.specs.State.{State}
 use Rattle.run_history.specs.declared.entry.Entry.{Entry}
 use Rattle.run_history.specs.After.{state_after}
 use Rattle.lone_schedule.specs.Turns.{is_over, is_turn}
-use Rattle.lone_schedule.specs.Words.{word}
+use Rattle.seed_words.specs.Words.{word}
 
 -- the entries of all turns, in order
 abbrev pub joined : List (List Entry) → List Entry

@@ -7,9 +7,9 @@ ghost use Rattle.lone_schedule.specs.Drives.{CanTurn, GivesUp, RunsAlone, TakesT
 
 use crate::choice::choose;
 use crate::open_call::{give_up, make_call};
-use crate::words::Words;
 use edge_ports::{Port, Sink, Source};
 use machine_core::{Origin, Quiet, Stepped};
+use seed_words::Words;
 
 /// How many ordinary acts of a hart without frames one turn may make.
 const QUANTUM: u32 = 64;

@@ -1,5 +1,5 @@
--- What holds of each machine with no call open, and of its start.
-use Rattle.std.proofs.Common.{◌≡◌, ℕ, ◌≤◌, List, [], ◌++◌, length, ap, sym, ◌∙◌, subst, arith}
+-- What holds of each machine with no call open, of its start, and of one that can make a turn.
+use Rattle.std.proofs.Common.{◌≡◌, ℕ, ◌≤◌, ◌<◌, false, List, [], ◌++◌, length, None, ap, sym, ◌∙◌, subst, arith}
 use Rattle.guest_words.specs.declared.limits.TheConstants.{BUDGET}
 use Rattle.guest_words.specs.declared.image.Image.{Image}
 use Rattle.guest_words.specs.declared.point.Point.{Point}
@@ -20,7 +20,8 @@ use Rattle.open_calls.specs.Nest.{flat, flat_from}
 use Rattle.text_laws.specs.Texts.{IsTextSafe}
 use Rattle.text_laws.proofs.Start.{start_is_text_safe}
 use Rattle.machine_core.specs.Inner.{Holds, Inner, machine_in, whole_in}
-use Rattle.machine_core.specs.Machine.{AllOpen, IsAsTold, IsStart}
+use Rattle.machine_core.specs.Machine.{AllOpen, IsAsTold, IsStart, Machine}
+use Rattle.machine_core.specs.Turns.{CanTurn}
 use Rattle.machine_core.proofs.Holding.{run_so_far, within}
 
 pub is_start : (start : State) (told : Seen) (image : Image) (points : List Point) (harts ports budget : ℕ) → start ≡ start_of image points harts ports budget → IsLoadList image.loads
@@ -62,3 +63,15 @@ module _ (start : State) (told : Seen) (w : Inner) (p : Noted) (k : Holds start 
         most = omega (arith, budget, most);
         calm = k.calm none;
       }
+
+-- a machine whose run goes on can make a hart's turn
+pub can_turn : (start : State) (w v : Inner) (m : Machine) (d : Seen) (h : ℕ) → v ≡ record w { hart = h } → machine_in w d ≡ m → w.nest.outers ≡ [] → IsAsTold start (machine_in w d)
+    → m.state.ending ≡ None → m.abandoned ≡ false → h < length start.slots → CanTurn v
+can_turn start w v m d h turned is none told going kept few =
+    let slots = told.slots in
+    subst CanTurn (sym turned) (record {
+      none = none;
+      going = ap (λ (x : Machine). x.state.ending) is ∙ going;
+      kept = ap (λ (x : Machine). x.abandoned) is ∙ kept;
+      within = omega (arith, slots, few);
+    })

@@ -11,7 +11,6 @@ use crate::inner::Inner;
 use crate::origin::Origin;
 use crate::room::make_room;
 use guest_words::{MemoryWant, PointRef};
-use open_calls::Part;
 
 impl<K: Origin> Inner<K> {
     /// Opens the call of the point at which the hart stands, within those that are open. Takes
@@ -33,7 +32,7 @@ impl<K: Origin> Inner<K> {
     {
         let hart = self.calls.hart();
         make_room(&mut self.calls, &mut self.pending, 0)?;
-        let part = Part::fresh(self.alloc)?;
+        let part = self.calls.next_part(self.alloc)?;
         let kept = self.engine.checkpoint(self.alloc, self.calls.length())?;
         self.engine.enter(hart, point)?;
         self.calls.open(point, kept, part);

@@ -4,12 +4,13 @@ ghost use Rattle.guest_words.specs.Endings.{is_budget_spent};
 ghost use Rattle.edge_ports.specs.Seen.{Seen};
 ghost use Rattle.run_history.specs.Ahead.{ahead};
 ghost use Rattle.run_history.specs.Faults.{fault_of};
+ghost use Rattle.hart_step.specs.Sees.{Sees};
 ghost use Rattle.machine_core.specs.Inner.{opened_in, whole_in, IsGoing, IsUnderSame};
 ghost use Rattle.machine_core.specs.OpenSteps.{Erases};
 
 use crate::inner::Inner;
 use crate::origin::Origin;
-use guest_words::Fault;
+use guest_words::{Fault, FaultName};
 use hart_step::NextAct;
 use open_calls::Taken;
 use run_history::Entry;
@@ -44,6 +45,19 @@ impl<K: Origin> Inner<K> {
             inside: inside.into_inside(),
         };
         self.calls.append(entry, &mut self.pending);
+    }
+
+    /// The fault of this name that the hart is seen to make.
+    pub(crate) fn seen_fault(&self, name: FaultName) -> Fault
+        requires going { IsGoing self.now }
+        requires act { Sees self.now.live.state self.now.hart (NextAct.Fault name) }
+        ensures value { Some result ≡ fault_of self.now.live.state self.now.hart }
+    {
+        let hart = self.calls.hart();
+        let Some(now) = self.engine.hart(hart) else {
+            unreachable!();
+        };
+        Fault { name, pc: now.pc }
     }
 
     /// The fault that the hart is about to make.

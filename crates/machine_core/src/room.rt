@@ -6,6 +6,7 @@ use undo_log::Log;
 
 /// Makes room for an entry with so many notes: in the open calls, and in the log in which the notes
 /// wait for their entry.
+#[inline]
 pub fn make_room(calls: &mut Calls, pending: &mut Log, notes: u64) -> Result<(), MemoryWant>
     ensures nest { calls.new.nest ≡ calls.old.nest }
     ensures hart { calls.new.hart ≡ calls.old.hart }

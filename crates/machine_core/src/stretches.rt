@@ -39,9 +39,8 @@ impl<K: Origin, S: Source, T: Sink, P: Port> Quiet<K, S, T, P> {
         core.inner.points()
     }
 
-    /// Appends the stretch of a hart that still stands at the base: so many register acts, by which
-    /// it came to the hart `after`. A hart that has changed meanwhile, in its reservation too, isn't
-    /// moved, and no stretch goes past the steps that are left.
+    /// Appends a stretch: so many register acts that lead from the base to `after`. The hart has to
+    /// be the base still, in every part, its reservation included, and the steps have to be left.
     ///
     /// After Moved, Short and Memory all is as before.
     pub fn commit(&mut self, hart: u8, base: Hart, after: Hart, count: u32) -> Commit

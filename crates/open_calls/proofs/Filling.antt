@@ -2,6 +2,7 @@
 use Rattle.std.proofs.Common.{◌≡◌, ℕ, ◌+◌, ◌-◌, ◌<◌, ◌≤◌, List, [], ◌∷◌, ◌++◌, length, length-append, refl, ap, sym, ◌∙◌, subst, arith, Result, Ok, Err, OnOk}
 use Rattle.run_history.specs.declared.entry.Entry.{Entered}
 use Rattle.open_calls.specs.declared.part.Part.{Part}
+use Rattle.open_calls.specs.declared.part.TheConstants.{ENTRIES, NOTES}
 use Rattle.open_calls.specs.declared.outer.Outer.{Outer}
 use Rattle.open_calls.specs.Nest.{opened}
 use Rattle.open_calls.specs.Rooms.{turned, level_of, levels, nest_of, HasRoom, Rooms, IsFresh, IsWider, IsRoomier, AreRoomier, Uses}
@@ -97,32 +98,34 @@ close_rooms acts notes h top p o os r entries notes_are joins =
           (length top.log.notes + notes + length o.part.log.notes) (length p.log.notes + notes) os (omega (arith, es)) (omega (arith, ns)) r.2;
     }
 
--- an inner part goes
-pub take_rooms : (acts now notes : ℕ) (top : Part) (o : Outer) (os : List Outer) → now ≤ acts + 1
-    → HasRoom (length top.entries.entries + acts + 1) (length top.log.notes + notes) (o ∷ os) → Rooms now notes o.part os
-take_rooms acts now notes top o os few r =
+-- an inner part goes, with all that it used of the room
+pub take_rooms : (acts now notes now_notes : ℕ) (top : Part) (o : Outer) (os : List Outer) → now ≤ acts + length top.entries.entries + 1 → now_notes ≤ notes + length top.log.notes
+    → HasRoom (length top.entries.entries + acts + 1) (length top.log.notes + notes) (o ∷ os) → Rooms now now_notes o.part os
+take_rooms acts now notes now_notes top o os few few_notes r =
     let a = r.0 in let b = r.1 in record {
       entries = omega (arith, a, few);
-      log = omega (arith, b);
+      log = omega (arith, b, few_notes);
       above =
           less (length top.entries.entries + acts + 1 + 1 + length o.part.entries.entries) (length o.part.entries.entries + now + 1)
-          (length top.log.notes + notes + length o.part.log.notes) (length o.part.log.notes + notes) os (omega (arith, few)) (omega arith) r.2;
+          (length top.log.notes + notes + length o.part.log.notes) (length o.part.log.notes + now_notes) os (omega (arith, few)) (omega (arith, few_notes)) r.2;
     }
 
--- a call opens
-pub open_rooms : (acts notes : ℕ) (top part : Part) (o : Outer) (xs : List Outer) → Rooms acts notes top (turned xs) → 0 < acts → o.part ≡ top
-    → IsFresh part → Rooms 0 0 part (turned (xs ++ o ∷ []))
-open_rooms acts notes top part o xs r some same fresh =
+-- a call opens, with room for fewer entries and notes
+pub open_rooms : (acts notes fewer less_notes : ℕ) (top part : Part) (o : Outer) (xs : List Outer) → Rooms acts notes top (turned xs) → fewer + 1 ≤ acts → less_notes ≤ notes
+    → fewer ≤ ENTRIES → less_notes ≤ NOTES → o.part ≡ top → IsFresh part → Rooms fewer less_notes part (turned (xs ++ o ∷ []))
+open_rooms acts notes fewer less_notes top part o xs r few few_notes small small_notes same fresh =
     let e = ap length fresh.entries in let n = ap length fresh.notes in
     let a = r.entries in let is = ap (λ (p : Part). p.entries.spare) same in
+    let b = r.log in let log_is = ap (λ (p : Part). p.log.spare) same in
+    let room = fresh.room in let log_room = fresh.log in
     let es = ap (λ (p : Part). length p.entries.entries) same in let ns = ap (λ (p : Part). length p.log.notes) same in record {
-      entries = fresh.room;
-      log = omega arith;
-      above = subst (HasRoom (length part.entries.entries + 0 + 1) (length part.log.notes + 0)) (sym (turned-push xs o)) (
-        omega (arith, e, a, some, is),
-        omega (arith, n),
-        less (length top.entries.entries + acts + 1) (length part.entries.entries + 0 + 1 + 1 + length o.part.entries.entries) (length top.log.notes + notes) (length part.log.notes + 0 + length o.part.log.notes)
-            (turned xs) (omega (arith, e, es, some)) (omega (arith, n, ns)) r.above,
+      entries = omega (arith, small, room);
+      log = omega (arith, small_notes, log_room);
+      above = subst (HasRoom (length part.entries.entries + fewer + 1) (length part.log.notes + less_notes)) (sym (turned-push xs o)) (
+        omega (arith, e, a, few, is),
+        omega (arith, n, b, few_notes, log_is),
+        less (length top.entries.entries + acts + 1) (length part.entries.entries + fewer + 1 + 1 + length o.part.entries.entries) (length top.log.notes + notes) (length part.log.notes + less_notes + length o.part.log.notes)
+            (turned xs) (omega (arith, e, es, few)) (omega (arith, n, ns, few_notes)) r.above,
       );
     }
 

@@ -3,14 +3,16 @@ use Rattle.std.specs.Prelude.{◌≡◌, ℕ, ◌+◌, ◌≤◌, List, [], ◌�
 use Rattle.std.specs.Global.{Vec}
 use Rattle.guest_words.specs.declared.limits.TheConstants.{FRAMES}
 use Rattle.open_calls.specs.declared.part.Part.{Part}
+use Rattle.open_calls.specs.declared.part.TheConstants.{ENTRIES, NOTES}
 use Rattle.open_calls.specs.declared.outer.Outer.{Outer}
 use Rattle.open_calls.specs.Nest.{Level, Nest}
 
--- no entry and no note, and room for an entry
+-- no entry and no note, and room for some and for an entering
 pub record IsFresh (part : Part) : Type 0 where
   pub entries : part.entries.entries ≡ []
   pub notes : part.log.notes ≡ []
-  pub room : 1 ≤ part.entries.spare
+  pub room : ENTRIES + 1 ≤ part.entries.spare
+  pub log : NOTES ≤ part.log.spare
 
 -- the last one first
 abbrev pub turned : List Outer → List Outer

@@ -3,9 +3,10 @@ ghost use Rattle.guest_words.specs.declared.limits.TheConstants.{FRAMES};
 ghost use Rattle.run_history.specs.LastEntry.{with_acts};
 ghost use Rattle.open_calls.specs.Nest.{closed_one, closed_to, flat, lowest, notes_in, opened};
 ghost use Rattle.open_calls.specs.Rooms.{IsFresh};
+ghost use Rattle.open_calls.specs.declared.part.TheConstants.{ENTRIES};
 
 use crate::outer::Outer;
-use crate::part::Part;
+use crate::part::{ENTRIES, NOTES, Part};
 use crate::room::{Room, refill};
 use crate::taken::Taken;
 use checkpoints::Checkpoint;
@@ -16,11 +17,11 @@ use std::marker::Model;
 use std::mem::replace;
 use undo_log::Log;
 
-/// So many entries have room after a refill.
-const ENTRIES: usize = 64;
+/// A refill makes room for at most so many entries.
+const MOST_ENTRIES: usize = 64;
 
-/// And so many notes at least.
-const NOTES: u64 = 256;
+/// And for at most so many notes that aren't asked for.
+const MOST_NOTES: u64 = 65_536;
 
 /// The calls that a hart has open, and the history: what has been since the innermost call was
 /// entered, and what was before each.
@@ -33,6 +34,8 @@ pub struct Calls {
     /// So many entries and notes more have room, whatever closes.
     acts: usize,
     notes: u64,
+    /// Logs of calls that have closed, whose room serves those to come.
+    left: Vec<Log>,
 }
 
 impl Model for Calls {
@@ -66,12 +69,14 @@ impl Calls {
     {
         let top = Part::fresh(alloc)?;
         let outers = Vec::with_capacity(alloc, limits::FRAMES)?;
+        let left = Vec::with_capacity(alloc, limits::FRAMES)?;
         Ok(Calls {
             hart,
             top,
             outers,
             acts: 0,
             notes: 0,
+            left,
         })
     }
 
@@ -128,6 +133,13 @@ impl Calls {
         }
     }
 
+    /// How many notes more have room.
+    pub fn notes(&self) -> u64
+        ensures value { result ≡ self.now.notes }
+    {
+        self.notes
+    }
+
     /// Makes room for an entry, with so many notes.
     pub fn make_room(&mut self, notes: u64) -> Result<(), MemoryWant>
         ensures nest { self.new.nest ≡ self.old.nest }
@@ -138,27 +150,60 @@ impl Calls {
         if self.acts > 0 && notes <= self.notes {
             return Ok(());
         }
-        self.refill(notes.max(NOTES))
+        let room = self.room_ahead(notes);
+        self.refill(room)
     }
 
-    fn refill(&mut self, notes: u64) -> Result<(), MemoryWant>
+    // Room for as much again as there is, so that a long call is seldom refilled; of what isn't
+    // wanting as much as there is room for.
+    fn room_ahead(&self, notes: u64) -> Room
+        ensures entries { 0 < result.entries }
+        ensures notes { notes ≤ result.notes }
+    {
+        let entries = self.top.entries.items().len().min(MOST_ENTRIES);
+        let noted = self.top.log.length().min(MOST_NOTES);
+        Room {
+            entries: if self.acts > 0 {
+                self.acts
+            } else {
+                entries.max(ENTRIES)
+            },
+            notes: if notes <= self.notes {
+                self.notes
+            } else {
+                noted.max(NOTES).max(notes)
+            },
+        }
+    }
+
+    // Apart, so that the test for room is all that most steps pay.
+    #[inline(never)]
+    fn refill(&mut self, room: Room) -> Result<(), MemoryWant>
         ensures nest { self.new.nest ≡ self.old.nest }
         ensures hart { self.new.hart ≡ self.old.hart }
-        ensures acts { OnOk result (0 < self.new.acts) }
-        ensures notes { OnOk result (notes ≤ self.new.notes) }
+        ensures acts { OnOk result (self.new.acts ≡ room.entries) }
+        ensures notes { OnOk result (self.new.notes ≡ room.notes) }
     {
-        let room = Room {
-            entries: ENTRIES,
-            notes,
-        };
         let around = room.make_in(&mut self.top)?;
         refill(self.outers.as_mut_slice(), around)?;
-        self.acts = ENTRIES;
-        self.notes = notes;
+        self.acts = room.entries;
+        self.notes = room.notes;
         Ok(())
     }
 
+    /// A part for a further call.
+    pub fn next_part(&mut self, alloc: Global) -> Result<Part, MemoryWant>
+        ensures same { self.new ≡ self.old }
+        ensures fresh { IfOk result (λ part. IsFresh part) }
+    {
+        match self.left.pop() {
+            Some(log) => Part::over(alloc, log),
+            None => Part::fresh(alloc),
+        }
+    }
+
     /// A call of a point opens.
+    #[inline(always)]
     pub fn open(&mut self, point: PointRef, kept: Checkpoint, part: Part)
         requires acts { 0 < self.old.acts }
         requires few { length self.old.nest.outers < FRAMES }
@@ -168,8 +213,8 @@ impl Calls {
     {
         let part = replace(&mut self.top, part);
         self.outers.push_reserved(Outer { part, point, kept });
-        self.acts = 0;
-        self.notes = 0;
+        self.acts = one_less(self.acts);
+        self.notes = self.notes.min(NOTES);
     }
 
     /// The innermost call closes: its part goes behind what encloses it.
@@ -183,9 +228,19 @@ impl Calls {
             Some(outer) => {
                 let Outer { part, point, .. } = outer;
                 let inner = replace(&mut self.top, part);
-                self.top.join(inner, self.hart, point);
+                let log = self.top.join(inner, self.hart, point);
+                self.leave(log);
             }
             None => {}
+        }
+    }
+
+    // Keeps a log for a call to come, if there is a place for it.
+    fn leave(&mut self, log: Log)
+        ensures same { self.new ≡ self.old }
+    {
+        if self.left.len() < self.left.capacity() {
+            self.left.push_reserved(log);
         }
     }
 
@@ -273,7 +328,8 @@ impl Calls {
         };
         let Outer { part, point, kept } = outer;
         let inner = replace(&mut self.top, part);
-        self.acts = at_least_one(self.acts);
+        self.acts = with_those_of_call(self.acts, inner.entries.items().len());
+        self.notes = self.notes.saturating_add(inner.log.length());
         Taken {
             inside: inner.entries,
             log: inner.log,
@@ -300,10 +356,21 @@ impl Calls {
     }
 }
 
-// What encloses a call has room for one entry more than the call, for the entering.
-fn at_least_one(acts: usize) -> usize
-    ensures some { 0 < result }
-    ensures within { result ≤ acts + 1 }
+// What encloses a call has room for one entry more than the call, for the entering: so many entries
+// have room in a further call.
+fn one_less(acts: usize) -> usize
+    requires some { 0 < acts }
+    ensures less { result + 1 ≤ acts }
+    ensures few { result ≤ ENTRIES }
 {
-    acts.max(1)
+    (acts - 1).min(ENTRIES)
+}
+
+// Where the call is taken back, what encloses it has the room again that the call used, and that of
+// the entering.
+fn with_those_of_call(acts: usize, entries: usize) -> usize
+    ensures some { 0 < result }
+    ensures within { result ≤ acts + entries + 1 }
+{
+    acts.saturating_add(entries).max(1)
 }

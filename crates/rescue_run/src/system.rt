@@ -2,8 +2,7 @@
 use crate::put::put_memory;
 use crate::tops::{alone_top, top};
 use edge_ports::{FilePort, FileShelf, Port, Standard, StdSink, StdSource};
-use guest_words::MemoryWant;
-use program_words::{WordsFault, needs_threads, port_names, report_to_out};
+use program_words::{PortNames, WordsFault, needs_threads, port_names, report_to_out};
 use std::alloc::AllocError;
 use std::process::ExitCode;
 use std::sync::Wait;
@@ -28,7 +27,7 @@ pub fn run_words<H: Threads + Wait + Sync>(
 }
 
 /// Runs a program by the words of a command, as [`run_words`] does. What the command tells goes to
-/// `report`.
+/// `report`. The ports are those that the words name, and none where they are refused.
 pub fn run_words_to<H: Threads + Wait + Sync>(
     host: &H,
     rt: &HostRuntime,
@@ -36,10 +35,41 @@ pub fn run_words_to<H: Threads + Wait + Sync>(
     report: Standard,
 ) -> Result<ExitCode, AllocError> {
     let alloc = rt.alloc();
-    let mut report = StdSink::new(report);
-    let Ok(ports) = open_ports(rt, words) else {
-        return Ok(ExitCode::from(put_memory(&mut report).status()));
+    let report = StdSink::new(report);
+    let names = match port_names(alloc, words) {
+        Ok(names) => names,
+        Err(WordsFault::Words(_)) => PortNames::of(Vec::new(alloc)),
+        Err(WordsFault::Memory) => return Ok(want_memory(report)),
     };
+    let mut ports: Vec<Box<dyn Port + Send>> = Vec::new(alloc);
+    for name in names.items() {
+        let port = FilePort::open(rt, name.input.items(), name.output.items());
+        let Ok(port) = Box::new(alloc, port) else {
+            return Ok(want_memory(report));
+        };
+        if ports.push(port).is_err() {
+            return Ok(want_memory(report));
+        }
+    }
+    run_on(host, rt, words, ports, report)
+}
+
+/// Puts the line of want of memory, and answers its exit status.
+fn want_memory(report: StdSink<Standard>) -> ExitCode {
+    let mut report = report;
+    ExitCode::from(put_memory(&mut report).status())
+}
+
+/// Runs a program by the words of a command on these ports and the streams of the system.
+fn run_on<H: Threads + Wait + Sync>(
+    host: &H,
+    rt: &HostRuntime,
+    words: &[String],
+    ports: Vec<Box<dyn Port + Send>>,
+    report: StdSink<Standard>,
+) -> Result<ExitCode, AllocError> {
+    let alloc = rt.alloc();
+    let mut report = report;
     let mut shelf = FileShelf::new(rt.clone()?);
     let input = StdSource::new(rt.stdin());
     let out = StdSink::new(Standard::Out(rt.stdout()));
@@ -70,20 +100,4 @@ pub fn run_words_to<H: Threads + Wait + Sync>(
         )
     };
     Ok(ExitCode::from(answer.status))
-}
-
-/// The ports that the words name, and none where the words are refused.
-fn open_ports(rt: &HostRuntime, words: &[String]) -> Result<Vec<Box<dyn Port + Send>>, MemoryWant> {
-    let alloc = rt.alloc();
-    let mut ports: Vec<Box<dyn Port + Send>> = Vec::new(alloc);
-    let names = match port_names(alloc, words) {
-        Ok(names) => names,
-        Err(WordsFault::Words(_)) => return Ok(ports),
-        Err(WordsFault::Memory) => return Err(MemoryWant),
-    };
-    for name in names.items() {
-        let port = FilePort::open(rt, name.input.items(), name.output.items());
-        ports.push(Box::new(alloc, port).map_err(|_| MemoryWant)?)?;
-    }
-    Ok(ports)
 }

@@ -1,10 +1,14 @@
-//! Tests of the top call, over devices in memory.
+//! Tests of the top call and of a machine's own calls, over devices in memory.
 #![tactic(auto)]
 
 #[cfg(test)]
 mod budget;
 #[cfg(test)]
 mod case;
+#[cfg(test)]
+mod commits;
+#[cfg(test)]
+mod driven;
 #[cfg(test)]
 mod expected;
 #[cfg(test)]
@@ -13,6 +17,8 @@ mod given;
 mod harts;
 #[cfg(test)]
 mod image;
+#[cfg(test)]
+mod logs;
 #[cfg(test)]
 mod meeting;
 #[cfg(test)]
@@ -32,6 +38,10 @@ mod replay;
 #[cfg(test)]
 mod rescues;
 #[cfg(test)]
+mod seeds;
+#[cfg(test)]
 mod server;
+#[cfg(test)]
+mod stretches;
 #[cfg(test)]
 mod threads;

@@ -47,7 +47,8 @@ pub fn replays(
     }
 }
 
-fn loaded(alloc: Global, file: &[u8]) -> Result<Image, AllocError>
+/// The image of a file. An Err is want of memory, or a file that is refused.
+pub fn loaded(alloc: Global, file: &[u8]) -> Result<Image, AllocError>
     ensures loads { IfOk result (λ image. IsLoadList image.loads) }
 {
     match load(alloc, file) {
@@ -56,7 +57,8 @@ fn loaded(alloc: Global, file: &[u8]) -> Result<Image, AllocError>
     }
 }
 
-fn named(alloc: Global, file: &[u8], points: &str) -> Result<Points, AllocError> {
+/// The points of a rescue file for a file. An Err is want of memory, or a file that is refused.
+pub fn named(alloc: Global, file: &[u8], points: &str) -> Result<Points, AllocError> {
     match load(alloc, file) {
         Ok(_) => {
             let symbols = functions(alloc, file).map_err(|_| AllocError)?;

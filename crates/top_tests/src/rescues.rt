@@ -1,6 +1,9 @@
 use crate::case::Case;
 use crate::expected::{Expected, Inside};
 use crate::given::{Given, assert_gives};
+use crate::image::image;
+use crate::logs::assert_notes_of;
+use crate::replay::{loaded, named};
 use guest_words::FaultName;
 use std::alloc::Global;
 use std::process::Abort;
@@ -56,10 +59,18 @@ fn written_twice(
     Ok(())
 }
 
+/// That each of the two writes under the point is noted.
+fn notes_each(rt: &impl Abort, alloc: Global, points: &str) -> Result<(), Fail> {
+    let file = image(alloc, &WRITTEN_TWICE, Some(&[0x11]))?;
+    let points = named(alloc, &file, points)?;
+    assert_notes_of(rt, alloc, &loaded(alloc, &file)?, &points)
+}
+
 #[test]
 fn byte_written_twice(rt: HostRuntime) -> Result<(), Fail> {
     let (points, status, report) = CODES[0];
-    written_twice(&rt, rt.alloc(), points, status, report)
+    written_twice(&rt, rt.alloc(), points, status, report)?;
+    notes_each(&rt, rt.alloc(), points)
 }
 
 #[test]

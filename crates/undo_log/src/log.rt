@@ -58,6 +58,22 @@ impl Log {
         Ok(())
     }
 
+    /// The same where there is room. Takes no memory.
+    #[inline]
+    pub fn note_stored(&mut self, address: u64, width: Width, old: u64)
+        requires room { 0 < self.old.spare }
+        ensures value { self.new ≡ record {
+          notes = self.old.notes ++ Note.Bytes address width old ∷ [];
+          spare = self.old.spare - 1;
+        } }
+    {
+        self.notes.push_reserved(Note::Bytes {
+            address,
+            width,
+            old,
+        });
+    }
+
     /// Notes that so many pages from an address on were made. Takes no memory.
     pub fn note_made(&mut self, from: u64, count: u64)
         requires room { 0 < self.old.spare }

@@ -1,34 +1,27 @@
--- Each byte is the next word of the generator, modulo 16.
+-- Each byte is the next word of the seed, modulo 16.
 use Rattle.std.proofs.Common.{◌≡◌, ℕ, ◌+◌, ◌*◌, ◌%◌, [], ◌∷◌, ◌++◌, map, ap, sym, ◌∙◌, arith}
 use Rattle.std.specs.List.{range_with_len}
 use Rattle.std.proofs.lemmas.List.FromFn.{map-range_with_len_more}
-use Rattle.rand_pcg.specs.Lcg.{Lcg, next, state_after}
-use Rattle.rand_pcg.specs.Pcg.{multiplier_64, pcg32}
-use Rattle.load_maker.specs.Input.{input_byte, input_of, words_at}
-use Rattle.load_maker.proofs.WordsLaws.{words-next}
+use Rattle.load_maker.specs.Input.{input_byte, input_of}
 use Rattle.load_maker.proofs.input.load_input.Goals as goal
 
 more : (f : ℕ → ℕ) (k : ℕ) → map f (range_with_len 0 (k + 1)) ≡ map f (range_with_len 0 k) ++ f k ∷ []
 more f k = map-range_with_len_more f 0 k k (omega arith)
 
 pub loop-init : goal.loop-init
-unfolding words_at state_after
-loop-init c = (c.new-input.ensures.items, c.seed_from_u64-words.ensures)
+loop-init c = (c.new-input.ensures.items, c.of-words.ensures.value)
 
 pub loop-preserved : goal.loop-preserved
 loop-preserved c =
     let number = c.args.number in
     let k = c.loop.counter in
     let at = c.loop.invariant.1 in
-    let byte : c.next_word.result % 16 ≡ input_byte number k =
-    ap (λ (p : ℕ × Lcg). p.0 % 16) c.next_word.ensures ∙ ap (λ (g : Lcg). (pcg32 g).0 % 16) at in
-    let words : c.next_word.new.self ≡ words_at number (k + 1) =
-    ap (λ (p : ℕ × Lcg). p.1) c.next_word.ensures ∙ ap (next 64 multiplier_64) at ∙ words-next number k in (
+    let byte : c.draw.result % 16 ≡ input_byte number k = ap (λ w. w % 16) (c.draw.ensures.value number k at) in (
       c.in_ok-push.ensures.items
-          ∙ ap (λ xs. xs ++ (c.next_word.result % 16) ∷ []) c.loop.invariant.0
+          ∙ ap (λ xs. xs ++ (c.draw.result % 16) ∷ []) c.loop.invariant.0
           ∙ ap (λ b. map (input_byte number) (range_with_len 0 k) ++ b ∷ []) byte
           ∙ sym (more (input_byte number) k),
-      words,
+      c.draw.ensures.next number k at,
     )
 
 pub returns : goal.returns

@@ -1,6 +1,7 @@
 use Rattle.std.proofs.Common.{◌≡◌, map}
 use Rattle.std.specs.List.{range_with_len}
-use Rattle.load_maker.specs.Input.{input_byte, words_at}
+use Rattle.load_maker.specs.Input.{input_byte}
+use Rattle.seed_words.specs.Words.{words_at}
 use Rattle.load_maker.proofs.input.load_input.Given as goal
 
 abbrev pub invariant-loop : goal.invariant-loop

@@ -1,4 +1,4 @@
-use Rattle.std.proofs.Common.{◌≡◌, ℕ, true, ◌&&◌, ◌==◌, length, sym, subst, arith}
+use Rattle.std.proofs.Common.{◌≡◌, true, length, sym, subst, arith}
 use Rattle.std.proofs.lemmas.Bool.Decides.{nat_tests}
 use Rattle.guest_words.specs.declared.image.Page.{Page}
 use Rattle.guest_words.specs.Space.{Space}

@@ -28,11 +28,6 @@ end-requires g c =
           (ap (act_of s) own ∙ end_act (act_of s c.args.self.now.hart) c.in-End.code sees);
     }
 
-pub returns-in-Fault-clause-err : goal.returns-in-Fault-clause-err
-returns-in-Fault-clause-err g c =
-    let e = told g.S.Source.end g.T.Sink.end g.P.Port.end c.args.devices.now in
-    on_err c.fail_or_want.result _ (IsWanting c.args.self.now e c.fail_or_want.new.self e) (λ all. all e) c.fail_or_want.ensures.err
-
 pub returns-in-Request-clause-ok : goal.returns-in-Request-clause-ok
 returns-in-Request-clause-ok g c =
     let w = c.args.self.now in

@@ -1,27 +1,22 @@
-use Rattle.std.proofs.Common.{◌≡◌, ◌<◌, ◌≤◌, length, Ok, IfOk, ap, sym, ◌∙◌, subst, arith}
+use Rattle.std.proofs.Common.{◌<◌, ◌≤◌, IfOk, ap, sym, ◌∙◌, subst}
 use Rattle.guest_words.specs.Act.{act_of}
 use Rattle.guest_words.specs.State.{State}
-use Rattle.edge_ports.specs.Seen.{Seen, seen as told}
+use Rattle.edge_ports.specs.Seen.{seen as told}
 use Rattle.run_history.specs.Ahead.{ahead}
 use Rattle.machine_core.specs.Inner.{Inner, machine_in}
 use Rattle.machine_core.specs.Machine.{Machine}
 use Rattle.machine_core.specs.QuietSteps.{Steps}
-use Rattle.machine_core.specs.Turns.{CanTurn}
 use Rattle.machine_core.proofs.Steps.{moved_nearer}
+use Rattle.machine_core.proofs.Told.{can_turn}
 use Rattle.machine_core.proofs.machine.Quiet.step.Goals as goal
 
 pub step-requires-clause-can : goal.step-requires-clause-can
 step-requires-clause-can g c =
+    let d = told g.S.Source.end g.T.Sink.end g.P.Port.end c.as_mut-core.result.now.devices in
     let core = c.as_mut-core.ensures.value in
-    let facts = c.turn_to.ensures.told (told g.S.Source.end g.T.Sink.end g.P.Port.end c.self.inside.core.value.devices) in
-    let slots = facts.slots in
-    let few = c.requires.hart in
-    subst CanTurn (sym c.turn_to.ensures.same) (record {
-      none = ap (λ x. x.inner.nest.outers) core ∙ c.self.invariant.none;
-      going = ap (λ x. x.inner.live.state.ending) core ∙ ap (λ (m : Machine). m.state.ending) c.self.view_is ∙ c.requires.going;
-      kept = ap (λ x. x.inner.abandoned) core ∙ ap (λ (m : Machine). m.abandoned) c.self.view_is ∙ c.requires.kept;
-      within = omega (arith, slots, few);
-    })
+    can_turn g.K.Origin.state c.as_mut-core.result.now.inner c.turn_to.new.self c.args.self.now d c.args.hart c.turn_to.ensures.same
+    (ap (λ x. machine_in x.inner (told g.S.Source.end g.T.Sink.end g.P.Port.end x.devices)) core ∙ c.self.view_is) (ap (λ x. x.inner.nest.outers) core ∙ c.self.invariant.none)
+    (c.turn_to.ensures.told d) c.requires.going c.requires.kept c.requires.hart
 
 pub returns-clause-nearer : goal.returns-clause-nearer
 returns-clause-nearer g c = λ moved.

@@ -18,12 +18,14 @@ push_reserved-requires c =
 pub invariant_of-self : goal.invariant_of-self
 invariant_of-self c =
     let o : Outer = record { part = c.replace-part.result; point = c.args.point; kept = c.args.kept } in
-    let acts = subst (λ (s : Stack). 0 < s.acts) (sym c.self.view_is) c.requires.acts in
+    let acts = c.one_less-self-inside.result in
+    let notes = c.min-self-inside.result in
+    let least = c.min-self-inside.ensures in
     let places = c.self.invariant.1 in
     let capacity = c.push_reserved.ensures.capacity in (
-      subst (λ os. Rooms 0 0 c.replace-part.new.dest (turned os)) (sym c.push_reserved.ensures.items)
-          (subst (λ (p : Part). Rooms 0 0 p (turned (c.self.inside.outers.items ++ o ∷ []))) (sym c.replace-part.ensures.after)
-          (open_rooms c.self.inside.acts c.self.inside.notes c.self.inside.top c.args.part o c.self.inside.outers.items c.self.invariant.0 acts c.replace-part.ensures.value c.requires.fresh)),
+      subst (λ os. Rooms acts notes c.replace-part.new.dest (turned os)) (sym c.push_reserved.ensures.items)
+          (subst (λ (p : Part). Rooms acts notes p (turned (c.self.inside.outers.items ++ o ∷ []))) (sym c.replace-part.ensures.after)
+          (open_rooms c.self.inside.acts c.self.inside.notes acts notes c.self.inside.top c.args.part o c.self.inside.outers.items c.self.invariant.0 c.one_less-self-inside.ensures.less (omega (arith, least)) c.one_less-self-inside.ensures.few (omega (arith, least)) c.replace-part.ensures.value c.requires.fresh)),
       omega (arith, places, capacity),
     )
 

@@ -1,4 +1,4 @@
-use Rattle.std.proofs.Common.{◌++◌, ◌∷◌, ap, sym, ◌∙◌, subst, option_to_list, arith}
+use Rattle.std.proofs.Common.{◌++◌, ◌∷◌, ap, sym, ◌∙◌, subst, length, option_to_list, arith}
 use Rattle.open_calls.specs.declared.part.Part.{Part}
 use Rattle.open_calls.specs.Nest.{Stack}
 use Rattle.open_calls.specs.Rooms.{turned, levels, Rooms}
@@ -9,10 +9,17 @@ pub invariant_of-self : goal.invariant_of-self
 invariant_of-self c =
     let was = c.pop.ensures.items ∙ ap (λ o. c.pop.new.self.items ++ option_to_list o) c.in-Some.is in
     let room = popped_room c.self.inside.acts c.self.inside.notes c.self.inside.top c.self.inside.outers.items c.pop.new.self.items c.in-Some.outer was c.self.invariant.0 in
+    let acts = c.with_those_of_call-self-inside.result in
+    let notes = c.saturating_add-self-inside.result in
+    let few = c.with_those_of_call-self-inside.ensures.within in
+    let whole = ap length c.items.ensures.list ∙ ap (λ (p : Part). length p.entries.entries) c.replace-inner.ensures.value in
+    let sum = c.saturating_add-self-inside.ensures in
+    let noted = c.length.ensures.value in
+    let notes_whole = ap (λ (p : Part). length p.log.notes) c.replace-inner.ensures.value in
     let places = c.self.invariant.1 in
     let capacity = c.pop.ensures.capacity in (
-      subst (λ (p : Part). Rooms c.at_least_one-self-inside.result c.self.inside.notes p (turned c.pop.new.self.items)) (sym c.replace-inner.ensures.after)
-          (take_rooms c.self.inside.acts c.at_least_one-self-inside.result c.self.inside.notes c.self.inside.top c.in-Some.outer (turned c.pop.new.self.items) c.at_least_one-self-inside.ensures.within room),
+      subst (λ (p : Part). Rooms acts notes p (turned c.pop.new.self.items)) (sym c.replace-inner.ensures.after)
+          (take_rooms c.self.inside.acts acts c.self.inside.notes notes c.self.inside.top c.in-Some.outer (turned c.pop.new.self.items) (omega (arith, few, whole)) (omega (arith, sum, noted, notes_whole)) room),
       omega (arith, places, capacity),
     )
 

@@ -1,0 +1,8 @@
+//! The words of a seed, by which one thread chooses among harts and a load makes its input.
+#![tactic(auto)]
+
+#[cfg(test)]
+mod tests;
+mod words;
+
+pub use words::Words;

@@ -1,0 +1,28 @@
+# The first instructions of a guest with picolibc. The stack pointer is ready and aligned, and the
+# loader has put the first values of variables where they belong.
+    .file "start.S"
+    .text
+    .globl _start
+    .type _start, @function
+_start:
+    # the linker may shorten addresses by way of gp, but not in the line that sets it
+    .option push
+    .option norelax
+    lla gp, __global_pointer$
+    .option pop
+    # Other systems than rescue may leave bytes of the file behind the variables that have values.
+    lla a0, __bss_start
+    li a1, 0
+    lla a2, __bss_size
+    call memset
+    # This hart's own variables, errno among them, lie at the end of its stack.
+    mv a0, sp
+    lla t0, __tls_size
+    sub sp, sp, t0
+    andi sp, sp, -16
+    call put_own_variables
+    mv tp, a0
+    call __libc_init_array
+    call main
+    call exit                   # with what main returned
+    .size _start, . - _start
