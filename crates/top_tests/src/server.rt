@@ -95,16 +95,10 @@ fn program(alloc: Global) -> Result<Vec<u8>, AllocError> {
     Ok(file)
 }
 
-/// The two connections: a request that is served, and one that faults.
-fn connections(alloc: Global) -> Result<Vec<Box<dyn Port + Send>>, AllocError> {
-    let mut ports: Vec<Box<dyn Port + Send>> = Vec::new(alloc);
-    for request in ["ok\n", "x"] {
-        let request = Bytes::of(request.as_bytes().to_vec(alloc)?);
-        let port = MemoryPort::with_room(alloc, request, 64, Vec::new(alloc));
-        let port = port.map_err(|_| AllocError)?;
-        ports.push(Box::new(alloc, port).map_err(|_| AllocError)?)?;
-    }
-    Ok(ports)
+/// A connection on which this request comes.
+fn connection(alloc: Global, request: &str) -> Result<MemoryPort, AllocError> {
+    let request = Bytes::of(request.as_bytes().to_vec(alloc)?);
+    MemoryPort::with_room(alloc, request, 64, Vec::new(alloc)).map_err(|_| AllocError)
 }
 
 const POINTS: &str = "[[point]]\nfunction = \"handle\"\nreturns = -1\nkind = \"blocking\"\n";
@@ -124,10 +118,11 @@ fn was_given(port: Option<&Box<dyn Port + Send>>, bytes: &[u8]) -> bool {
     }
 }
 
+/// Serves a request that is in order and one that faults, each on a connection of its own.
 fn serve<R: Abort + Threads + Wait + Sync>(
     rt: &R,
     alloc: Global,
-    words: &[&str],
+    words: &'static [&'static str],
 ) -> Result<(), Fail> {
     let program = program(alloc)?;
     let task = Task {
@@ -140,8 +135,13 @@ fn serve<R: Abort + Threads + Wait + Sync>(
             budget: 5_000_000,
         },
     };
+    let mut ports: Vec<Box<dyn Port + Send>> = Vec::new(alloc);
+    for request in ["ok\n", "x"] {
+        let port = connection(alloc, request)?;
+        ports.push(Box::new(alloc, port).map_err(|_| AllocError)?)?;
+    }
     let input = MemorySource::new(Bytes::of(Vec::new(alloc)), Vec::new(alloc));
-    let (answer, report) = done(rt, alloc, task, input, connections(alloc)?, &OpenDoor)?;
+    let (answer, report) = done(rt, alloc, task, input, ports, &OpenDoor)?;
     let ports = answer.devices.ports.as_slice();
     assert!(rt; was_given(ports.first(), b"K"));
     assert!(rt; was_given(ports.get(1), b"E"));

@@ -17,7 +17,7 @@ use stop_gate::{Door, OpenDoor};
 /// A command that is run on threads, with the files that it names and what they start.
 #[derive(Clone, Copy)]
 pub struct Task<'a> {
-    pub words: &'a [&'a str],
+    pub words: &'static [&'static str],
     pub program: &'a [u8],
     pub start: ReplayStart<'a>,
 }
