@@ -2,7 +2,9 @@
 ghost use Rattle.std.specs.Prelude.{◌≡◌, ◌≤◌, ◌<◌, length};
 ghost use Rattle.stop_gate.specs.Passes.{IsOf};
 
+use crate::sleepers::Sleepers;
 use crate::steps::step_alone;
+use crate::waking::wake_ready;
 use crossbeam_utils::Backoff;
 use edge_ports::{Port, Sink, Source};
 use machine_core::{Mode, Origin, Quiet};
@@ -17,6 +19,7 @@ pub fn turn_alone<R: Wait, K: Origin, S: Source, T: Sink, P: Port>(
     pass: Out<Quiet<K, S, T, P>>,
     hart: u8,
     quantum: u32,
+    sleepers: Option<&Sleepers>,
 ) -> Out<Quiet<K, S, T, P>>
     requires gate { IsOf gate.now pass }
     requires shared { K.mode ≡ Mode.Shared }
@@ -26,7 +29,7 @@ pub fn turn_alone<R: Wait, K: Origin, S: Source, T: Sink, P: Port>(
 {
     let stopping = raise(rt, gate, pass);
     let alone = seize(rt, gate, stopping);
-    gate.lower(turn(gate, alone, hart, quantum))
+    gate.lower(turn(gate, alone, hart, quantum, sleepers))
 }
 
 /// Raises the stop bit, when no other pass has.
@@ -71,12 +74,14 @@ fn seize<R: Wait, K: Origin, S: Source, T: Sink, P: Port>(
     unreachable!()
 }
 
-/// Takes the machine, steps the hart, and gives the machine back.
+/// Takes the machine, steps the hart, wakes the workers of harts that are ready, and gives the
+/// machine back.
 fn turn<K: Origin, S: Source, T: Sink, P: Port>(
     gate: &Gate<Quiet<K, S, T, P>>,
     pass: Alone<Quiet<K, S, T, P>>,
     hart: u8,
     quantum: u32,
+    sleepers: Option<&Sleepers>,
 ) -> Alone<Quiet<K, S, T, P>>
     requires gate { IsOf gate.now pass }
     requires shared { K.mode ≡ Mode.Shared }
@@ -86,5 +91,8 @@ fn turn<K: Origin, S: Source, T: Sink, P: Port>(
 {
     let (turn, held) = gate.take_alone(pass);
     let held = step_alone(held, &turn, hart, quantum);
+    if let Some(sleepers) = sleepers {
+        wake_ready(&held, sleepers);
+    }
     gate.give_alone(turn, held)
 }

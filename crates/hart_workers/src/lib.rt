@@ -6,9 +6,11 @@ mod pace;
 mod pause;
 mod runs;
 mod settle;
+mod sleepers;
 mod steps;
 mod stretch;
 mod turned;
+mod waking;
 mod worker;
 
 pub use runs::run_all;

@@ -1,5 +1,7 @@
 //! How a worker pauses between two tries. No clause speaks of it.
+use crate::sleepers::Sleepers;
 use crossbeam_utils::Backoff;
+use std::sync::Wait;
 
 /// The greatest number of pauses behind a turn in which the hart wasn't ready.
 const MOST: u32 = 64;
@@ -31,8 +33,15 @@ impl Pause {
         self.backoff.snooze();
     }
 
-    /// The hart isn't ready.
-    pub fn long(&mut self) {
+    /// The hart isn't ready: its worker sleeps, where workers are woken.
+    pub fn long<R: Wait>(&mut self, rt: &R, sleepers: Option<&Sleepers>, hart: u8) {
+        match sleepers {
+            Some(sleepers) => sleepers.sleep(rt, hart),
+            None => self.longer(),
+        }
+    }
+
+    fn longer(&mut self) {
         for _ in 0..self.naps {
             self.backoff.snooze();
         }

@@ -9,8 +9,9 @@ ghost use Rattle.hart_workers.specs.Parts.{Crosses, IsOfStart, IsPart, IsWaiting
 ghost use Rattle.hart_workers.specs.Workers.{HasSeenOver};
 
 use crate::settle::take_out;
+use crate::sleepers::Sleepers;
 use crate::steps::give_up;
-use crate::worker::work;
+use crate::worker::Worker;
 use edge_ports::{Port, Sink, Source};
 use guest_words::Points;
 use hart_step::Text;
@@ -41,6 +42,7 @@ fn run_part<
     points: &Points,
     first: u8,
     door: &D,
+    sleepers: &Sleepers,
 ) -> Out<Quiet<K, S, T, P>>
     requires shared { K.mode ≡ Mode.Shared }
     requires part { IsPart K.state gate.now first places.old }
@@ -53,7 +55,8 @@ fn run_part<
         let Some(pass) = places[0].take() else {
             unreachable!()
         };
-        return work(rt, gate, pass, text, points, first, door, QUANTUM);
+        let worker = Worker::new(first, QUANTUM, Some(sleepers));
+        return worker.go(rt, gate, pass, text, points, door);
     }
     let half = places.len() / 2;
     let next = first + half as u8;
@@ -67,7 +70,7 @@ fn run_part<
                 × IsPart K.state gate.now first low.now
                 × IsOfStart K.state text.now points.now }
             ensures { HasSeenOver gate.entry.now result }
-        { run_part(rt, gate, low, text, points, first, door) },
+        { run_part(rt, gate, low, text, points, first, door, sleepers) },
         || -> Out<Quiet<K, S, T, P>>
             requires { Crosses R.row D.row K.row S.row T.row P.row
                 (machine.the_row K.row S.row T.row P.row K.Origin S.Source T.Sink P.Port)
@@ -75,7 +78,7 @@ fn run_part<
                 × IsPart K.state gate.now next high.now
                 × IsOfStart K.state text.now points.now }
             ensures { HasSeenOver gate.entry.now result }
-        { run_part(rt, gate, high, text, points, next, door) },
+        { run_part(rt, gate, high, text, points, next, door, sleepers) },
     );
     pass
 }
@@ -119,7 +122,10 @@ pub fn run_all<
     let (Ok(text), Ok(points)) = (machine.text(), machine.points()) else {
         return give_up(machine);
     };
-    let Ok(places) = Vec::with_capacity(alloc, usize::from(harts)) else {
+    let (Ok(places), Ok(sleepers)) = (
+        Vec::with_capacity(alloc, usize::from(harts)),
+        Sleepers::new(alloc, harts),
+    ) else {
         return give_up(machine);
     };
     let (gate, passes) = match Gate::new(alloc, machine, harts) {
@@ -127,6 +133,15 @@ pub fn run_all<
         Err(machine) => return give_up(machine),
     };
     let mut places = placed(&gate, passes, places);
-    let pass = run_part(rt, &gate, places.as_mut_slice(), &text, &points, 0, door);
+    let pass = run_part(
+        rt,
+        &gate,
+        places.as_mut_slice(),
+        &text,
+        &points,
+        0,
+        door,
+        &sleepers,
+    );
     take_out(rt, &gate, pass)
 }

@@ -8,9 +8,11 @@ ghost use Rattle.stop_gate.specs.Passes.{IsOf};
 use crate::alone::turn_alone;
 use crate::pace::Pace;
 use crate::pause::Pause;
+use crate::sleepers::Sleepers;
 use crate::steps::step_hart;
 use crate::stretch::Stretch;
 use crate::turned::Turned;
+use crate::waking::{Others, tell};
 use edge_ports::{Port, Sink, Source};
 use guest_words::Points;
 use hart_step::Text;
@@ -19,17 +21,18 @@ use std::marker::Model;
 use std::sync::Wait;
 use stop_gate::{Door, Enter, Gate, Held, Out, Take};
 
-/// What a worker keeps between its turns: its hart, how many acts a step may make, the stretch that
-/// is begun, and when another is.
+/// What a worker keeps between its turns: its hart, how many acts a step may make, where workers
+/// sleep, the stretch that is begun, and when another is.
 #[derive(Drop)]
-struct Worker<K: Origin> {
+pub struct Worker<'a, K: Origin> {
     hart: u8,
     quantum: u32,
+    sleepers: Option<&'a Sleepers>,
     stretch: Option<Stretch<K>>,
     pace: Pace,
 }
 
-impl<K: Origin> Model for Worker<K> {
+impl<'a, K: Origin> Model for Worker<'a, K> {
     ghost use Rattle.hart_workers.specs.Workers.{Duty, IsDuty};
 
     ghost Value = { Duty };
@@ -63,36 +66,12 @@ pub fn work<R: Wait, K: Origin, S: Source, T: Sink, P: Port, D: Door>(
     ensures gate { IsOf gate.now result }
     ensures over { IsTrue result.view.over }
 {
-    let mut pass = pass;
-    let mut worker = Worker::new(hart, quantum);
-    let mut pause = Pause::new();
-    for _ in rt.forever() {
-        door.ask(hart);
-        match worker.turn(gate, pass, text, points) {
-            (next, Turned::Over) => return next,
-            (next, Turned::Moved) => {
-                pass = next;
-                pause.end();
-            }
-            (next, Turned::Held) => {
-                pass = next;
-                pause.short();
-            }
-            (next, Turned::Idle) => {
-                pass = next;
-                pause.long();
-            }
-            (next, Turned::Arrived) => {
-                pass = turn_alone(rt, gate, next, hart, quantum);
-                pause.end();
-            }
-        }
-    }
-    unreachable!()
+    Worker::new(hart, quantum, None).go(rt, gate, pass, text, points, door)
 }
 
-impl<K: Origin> Worker<K> {
-    fn new(hart: u8, quantum: u32) -> Worker<K>
+impl<'a, K: Origin> Worker<'a, K> {
+    /// A worker that has made no turn. One with no sleepers only pauses.
+    pub fn new(hart: u8, quantum: u32, sleepers: Option<&'a Sleepers>) -> Worker<'a, K>
         requires hart { hart < length K.state.slots }
         requires quantum { (1 ≤ quantum) × (quantum ≤ 4096) }
         ensures value { result ≡ record { hart = hart; quantum = quantum } }
@@ -100,9 +79,55 @@ impl<K: Origin> Worker<K> {
         Worker {
             hart,
             quantum,
+            sleepers,
             stretch: None,
             pace: Pace::new(),
         }
+    }
+
+    /// Makes turns until the machine is over.
+    pub fn go<R: Wait, S: Source, T: Sink, P: Port, D: Door>(
+        self,
+        rt: &R,
+        gate: &Gate<Quiet<K, S, T, P>>,
+        pass: Out<Quiet<K, S, T, P>>,
+        text: &Text,
+        points: &Points,
+        door: &D,
+    ) -> Out<Quiet<K, S, T, P>>
+        requires gate { IsOf gate.now pass }
+        requires shared { K.mode ≡ Mode.Shared }
+        requires text { IsTextOf text.now K.state.memory }
+        requires points { points.now ≡ K.state.points }
+        ensures gate { IsOf gate.now result }
+        ensures over { IsTrue result.view.over }
+    {
+        let (mut worker, mut pass) = (self, pass);
+        let mut pause = Pause::new();
+        for _ in rt.forever() {
+            door.ask(worker.hart);
+            match worker.turn(gate, pass, text, points) {
+                (next, Turned::Over) => return next,
+                (next, Turned::Moved) => {
+                    pass = next;
+                    pause.end();
+                }
+                (next, Turned::Held) => {
+                    pass = next;
+                    pause.short();
+                }
+                (next, Turned::Idle) => {
+                    pass = next;
+                    pause.long(rt, worker.sleepers, worker.hart);
+                }
+                (next, Turned::Arrived) => {
+                    let (hart, quantum) = (worker.hart, worker.quantum);
+                    pass = turn_alone(rt, gate, next, hart, quantum, worker.sleepers);
+                    pause.end();
+                }
+            }
+        }
+        unreachable!()
     }
 
     /// One try: it enters, makes the stretch that was begun, takes the machine, acts, and gives it
@@ -131,11 +156,31 @@ impl<K: Origin> Worker<K> {
         match gate.try_take(inside) {
             Take::Held { pass, .. } => (gate.leave(pass), Turned::Held),
             Take::Taken { turn, mut held } => {
-                let turned = self.act(&mut held, text);
+                let turned = self.act_and_tell(&mut held, text);
                 let inside = gate.give(turn, held);
                 (gate.leave(inside), turned)
             }
         }
+    }
+
+    /// Acts, and wakes the workers of the harts that are ready for it.
+    fn act_and_tell<S: Source, T: Sink, P: Port>(
+        &mut self,
+        machine: &mut Quiet<K, S, T, P>,
+        text: &Text,
+    ) -> Turned
+        requires text { IsTextOf text.now K.state.memory }
+        ensures same { self.new ≡ self.old }
+        ensures appends { Appends machine.old.history machine.new.history }
+        ensures stays { IsTrue (is_over machine.old) → IsTrue (is_over machine.new) }
+        ensures over { result ≡ Turned.Over → IsTrue (is_over machine.new) }
+    {
+        let before = Others::of(machine, self.hart);
+        let turned = self.act(machine, text);
+        if let Some(sleepers) = self.sleepers {
+            tell(machine, self.hart, before, turned, sleepers);
+        }
+        turned
     }
 
     /// What the worker does with the machine: it commits its stretch or steps its hart, and begins
