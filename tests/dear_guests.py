@@ -223,7 +223,7 @@ def guest_rows():
         guest_row("16 frames store to the same 256 pages, and return", 500_000,
                   sixteen_frames(RETURN), data=1 << 20),
         guest_row("the same, and each is rescued", 500_000, sixteen_frames(FAULT), data=1 << 20),
-        guest_row("one call of a point, with 400,000 stores", 500_000, stores_in_point),
+        guest_row("one call of a point, with 16,000,000 stores", 20_000_000, stores_in_point),
         guest_row("one call of a point, in which a page comes and goes", 100_000, pages_in_point),
         guest_row("63 wait, one is woken", 500_000, waiters, 64),
         guest_row("clones and exits", 500_000, clones, 64),
@@ -276,6 +276,25 @@ def overlapping_names(count, length):
     return with_sections(elf + names + table + headers, start, 3)
 
 
+def names_that_nearly_fit(count, points, length):
+    """The symbols of so many points, and up to a count more whose names differ in the last byte."""
+    smaller = smallest()
+    smaller.loads[0].size = 4096
+    elf = smaller.bytes()
+    wanted = [f"f{number}".ljust(length, "_").encode() for number in range(points)]
+    names = wanted + [name[:-1] + b"x" for name in wanted]
+    table = bytearray()
+    for number in range(count):
+        name = number if number < points else points + number % points
+        value = 0x10000 + 4 * (number % 1024)
+        table += struct.pack("<IBBHQQ", 1 + name * (length + 1), 2, 0, 1, value, 0)
+    strings = b"\0" + b"\0".join(names) + b"\0"
+    start = len(elf) + len(strings) + len(table)
+    headers = (bytes(64) + section_header(2, len(elf) + len(strings), len(table), 2, 24)
+               + section_header(3, len(elf), len(strings), 0, 0))
+    return with_sections(elf + strings + table + headers, start, 3)
+
+
 def many_loads():
     """64 loads of 1 MiB each, zero in the file."""
     text = smallest()
@@ -308,6 +327,9 @@ def file_rows():
         Dear("the same, and 256 points by name", None, pointed, names),
         Dear("256 points in 1 MiB, by names of 4,000 bytes", None, pointed,
              {"guest": many_symbols(256, 4000), "points.toml": named_points(256, 4000)}),
+        Dear("340,000 symbols, 256 points by names of 4,000 bytes that nearly fit", None, pointed,
+             {"guest": names_that_nearly_fit(340_000, 256, 4000),
+              "points.toml": named_points(256, 4000)}),
         Dear("1,000 symbols whose names are ends of one of 100,000 bytes", None, pointed,
              {"guest": overlapping_names(1000, 100_000), "points.toml": b""}),
         Dear("the same with 1,000,000 bytes", None, pointed,

@@ -1,5 +1,6 @@
 #!/usr/bin/env python3
-"""Refuses each allocation of the built program in turn, one alone and all from it on.
+"""Refuses each allocation of the built program in turn, one alone and all from it on; and, on `run`,
+each thread and all behind it.
 
     tests/refusals.py RESCUE [--only WORD] [--every N]
 
@@ -17,15 +18,20 @@ from dataclasses import dataclass, field
 import outcome
 import worked_guests as guests
 
+# The slots of a run, each with a worker; the last needs no thread of its own.
+THREADS = 8
+
 
 @dataclass
 class Run:
-    """A run: its words, the files that it needs, whether its line goes to standard output."""
+    """A run: its words, the files that it needs, whether its line goes to standard output, and
+    whether its harts come in any order, so that two whole runs may tell different things."""
     name: str
     words: list
     files: dict
     ports: list = field(default_factory=list)
     told_out: bool = False
+    any_order: bool = False
 
     def written(self):
         """Writes the files anew, so that each run has the same."""
@@ -45,6 +51,11 @@ def contents(name):
         return file.read()
 
 
+def ending(came):
+    """The status, and the last line that was told."""
+    return came.status, came.err.splitlines()[-1:]
+
+
 def runs():
     """The runs whose allocations are refused."""
     server, points = guests.server()
@@ -62,7 +73,7 @@ def runs():
         files = {"guest": guest[0].bytes(), "guest.toml": guest[1].encode()}
         for command in ("alone", "run"):
             made.append(Run(f"{name}, {command}", [command, "--points", "guest.toml", "guest"],
-                            files))
+                            files, any_order=command == "run"))
     for number, text in enumerate(guests.RESCUE_FILES):
         files = {"names": guests.two_names().bytes(), "names.toml": text.encode()}
         made.append(Run(f"rescue file {number}", ["alone", "--points", "names.toml", "names"],
@@ -96,14 +107,16 @@ class Refusals:
             came, ports, _ = self.made(run, refused)
         except (outcome.Hung, OSError) as error:
             return f"no outcome: {error!r}"
-        if (came, ports) == whole[:2]:
+        if (came, ports) == whole[:2] or run.any_order and ending(came) == ending(whole[0]):
             return None
         if came.status != 75:
             return f"status {came.status}, {(came.err or came.out)[-60:]!r}"
         told, silent = (came.out, came.err) if run.told_out else (came.err, came.out)
+        if run.told_out and not told:
+            told = silent  # memory was wanting for the words
         if told != b"refused: memory\n":
             return f"another line than that of memory: {told[-60:]!r}"
-        if not run.told_out and not whole[0].out.startswith(silent):
+        if not run.told_out and not run.any_order and not whole[0].out.startswith(silent):
             return "other output than the whole run's"
         if not all(full.startswith(part) for full, part in zip(whole[1], ports)):
             return "a port was given other bytes than by the whole run"
@@ -122,6 +135,10 @@ def tried(refusals, run, every):
             fault = refusals.fault(run, whole, {name: str(number)})
             if fault:
                 found.setdefault((name, fault), []).append(number)
+    for number in range(1, THREADS + 1) if run.words[0] == "run" else []:
+        fault = refusals.fault(run, whole, {"REFUSE_THREADS": str(number)})
+        if fault:
+            found.setdefault(("REFUSE_THREADS", fault), []).append(number)
     for (name, fault), numbers in found.items():
         some = ", ".join(map(str, numbers[:5]))
         print(f"  {name} {some} ({len(numbers)} in all): {fault}")

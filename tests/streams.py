@@ -65,7 +65,14 @@ TRIED = [
     ("a port as it should be", "$R alone port input:out && false; cmp input out && exit 14", 14,
      REPORT),
     ("IN and OUT one file", "cp input same; $R alone port same:same", 0, REPORT),
-    ("OUT is PROGRAM", "cp port gone; $R alone gone input:gone", 68, "refused: elf too-short at 0"),
+    ("OUT is PROGRAM", "cp port gone; $R alone gone input:gone && false; cmp input gone && exit 14",
+     14, REPORT),
+    ("OUT of a refused command", "cp input out; $R alone /dev/null input:out; st=$?; "
+     "cmp input out && exit $st", 68, "refused: elf too-short at 0"),
+    ("OUT of a refused rescue file", "cp input out; $R alone --points echo port input:out; st=$?; "
+     "cmp input out && exit $st", 73, "refused: points toml at top"),
+    ("OUT of a refused command isn't made", "$R alone nowhere input:out; st=$?; "
+     "test ! -e out && exit $st", 66, "refused: program unreadable"),
     ("an empty device as PROGRAM", "$R alone /dev/null", 68, "refused: elf too-short at 0"),
     ("an endless device as PROGRAM", "$R alone /dev/zero", 67, "refused: program too long"),
     ("an endless device as FILE", "$R alone --points /dev/zero echo", 67,
@@ -80,10 +87,15 @@ TRIED = [
     ("a file cut while it is read", "(while :; do cp echo cut; : > cut; done) & for n in 1 2 3 4 5 "
      "6 7 8 9; do $R alone cut < input 2>> e; case $? in 14|66|68) ;; *) echo $? >&2;; esac; done; "
      "kill $!; exit 0", 0, NOTHING),
-    ("a name that isn't UTF-8", "$R alone $(printf 'a\\377') < input", 1, "Error: invalid data"),
+    ("a name that isn't UTF-8", "$R alone $(printf 'a\\377') < input", 64, "refused: words line"),
+    ("a first word that isn't UTF-8", "$R $(printf 'a\\377')", 64, "refused: words line"),
     ("an empty name", "$R alone ''", 66, "refused: program unreadable"),
-    ("input and output closed, with a port", "$R alone echo input:out <&- >&- && false; "
-     "cmp input out && exit 14", 14, REPORT),
+    ("input and output closed, with a port", "$R alone echo input:out <&- >&-; st=$?; "
+     "test ! -s out && exit $st", 251, REPORT),
+    ("output closed, with a port", "$R alone echo input:out < input >&-; st=$?; "
+     "test ! -s out && exit $st", 251, REPORT),
+    ("error closed, with a port", "$R alone port input:out 2>&-; st=$?; cmp input out && exit $st",
+     74, NOTHING),
 ]
 
 

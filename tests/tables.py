@@ -131,14 +131,15 @@ def read(path):
 
 
 def told_faults(rescue):
-    """What differs where the report, the program or the rescue file fails."""
+    """What differs where the report, the program or the rescue file fails: a refused command leaves
+    the files of the ports as they are."""
     line = f"{rescue} alone --points points server a:b c:d 2> /dev/full"
     if os.waitstatus_to_exitcode(os.system(line)) != 74 or (read("b"), read("d")) != (b"K", b"E"):
         yield "the report fails: another status, or other bytes at the ports"
     for words, text in [(["--points", "points", "nowhere"], b"refused: program unreadable\n"),
                         (["--points", "nowhere", "server"], b"refused: points unreadable\n")]:
         came = outcome.run(rescue, ["alone", *words, "a:b", "c:d"])
-        if came != outcome.Outcome(66, b"", text) or (read("b"), read("d")) != (b"", b""):
+        if came != outcome.Outcome(66, b"", text) or (read("b"), read("d")) != (b"K", b"E"):
             yield f"{text!r}: {came.status} {came.err!r}"
 
 

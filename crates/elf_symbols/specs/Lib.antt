@@ -3,3 +3,4 @@ pub mod Listed
 pub mod SymFault
 pub mod SymbolFields
 pub mod SymbolTable
+pub mod Tallies

@@ -1,5 +1,6 @@
-ghost use Rattle.std.specs.Prelude.{◌≡◌, ◌==◌, ℕ, drop, nat_lt, position};
+ghost use Rattle.std.specs.Prelude.{◌≡◌, ◌≤◌, ◌==◌, ℕ, length, drop, nat_lt, nat_le, position};
 ghost use Rattle.std.specs.List.{before_first};
+ghost use Rattle.std.specs.Str.{bytes_eq};
 ghost use Rattle.guest_words.specs.Image.{contains};
 
 /// How many bytes there are up to the last zero byte, or 0: a zero byte follows just the places
@@ -31,4 +32,30 @@ pub fn before_zero(bytes: &[u8]) -> &[u8]
         Some(place) => &bytes[..place],
         None => bytes,
     }
+}
+
+/// Whether the bytes before the first zero byte, or all where there is none, are this name, which
+/// is no shorter than the bytes.
+fn is_whole(bytes: &[u8], name: &[u8]) -> bool
+    requires { length bytes.now ≤ length name.now }
+    ensures { result ≡ bytes_eq (before_first (λ b. b == 0) bytes.now) name.now }
+{
+    bytes == name && !name.contains(&0)
+}
+
+/// Whether the bytes before the first zero byte, or all where there is none, are this name.
+pub fn is_before_zero(bytes: &[u8], name: &[u8]) -> bool
+    ensures { result ≡ bytes_eq (before_first (λ b. b == 0) bytes.now) name.now }
+{
+    match bytes.get(name.len()) {
+        Some(end) => *end == 0 && is_whole(&bytes[..name.len()], name),
+        None => is_whole(bytes, name),
+    }
+}
+
+/// Whether a zero byte, or the end, comes after no more bytes than these.
+pub fn ends_within(bytes: &[u8], longest: usize) -> bool
+    ensures { result ≡ nat_le (length (before_first (λ b. b == 0) bytes.now)) longest }
+{
+    bytes.len() <= longest || bytes[..longest + 1].contains(&0)
 }

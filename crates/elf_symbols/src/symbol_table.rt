@@ -1,9 +1,10 @@
-ghost use Rattle.std.specs.Prelude.{◌≡◌, ◌+◌, ◌*◌, ◌/◌, ◌<◌, ◌≤◌, ℕ, length, drop, map, nat_lt, IfOk};
+ghost use Rattle.std.specs.Prelude.{◌≡◌, ◌+◌, ◌*◌, ◌/◌, ◌<◌, ◌≤◌, ℕ, [], length, drop, map, nat_lt, slice_index, Some, IfOk};
 
-use crate::entry::{add_symbol, is_function};
+use crate::entry::{add_symbol, is_function, is_named, short_symbol_at};
 use crate::strings::last_end;
 use crate::sym_fault::SymFault;
 use crate::symbol::Symbol;
+use crate::tallies::Tallies;
 use elf_loader::fields::{part, u32_at, u64_at};
 use elf_loader::rules::{Broken, refuse};
 use std::alloc::{AllocError, Global};
@@ -24,13 +25,15 @@ impl<'a> SymbolTable<'a> {
     ghost use Rattle.guest_words.specs.Rules.{first_broken};
     ghost use Rattle.guest_words.specs.Image.{contains};
     ghost use Rattle.elf_loader.specs.Checks.{Tells};
-    ghost use Rattle.std.specs.List.{flat_map};
     ghost use Rattle.elf_symbols.specs.SymbolFields.{sh_offset, sh_size, sh_link};
+    ghost use Rattle.std.specs.Option.{option_to_list};
     ghost use Rattle.elf_symbols.specs.SymbolTable.{places, name_rule, symbol_at};
-    ghost use Rattle.elf_symbols.specs.Listed.{IsTableAt};
+    ghost use Rattle.elf_symbols.specs.Listed.{IsTableAt, listed};
+    ghost use Rattle.elf_symbols.specs.Find.{values_of};
+    ghost use Rattle.elf_symbols.specs.Tallies.{AreTallies};
 
     /// The table whose section header stands at a place of the file.
-    pub fn at(file: &'a [u8], table: usize) -> SymbolTable<'a>
+    pub(crate) fn at(file: &'a [u8], table: usize) -> SymbolTable<'a>
         requires long { 64 ≤ length file.now }
         requires inside { e_shoff file.now + 64 * e_shnum file.now ≤ length file.now }
         requires within { table + 64 ≤ length file.now }
@@ -59,7 +62,7 @@ impl<'a> SymbolTable<'a> {
     }
 
     /// Tries the rule on each symbol.
-    pub fn check_names(&self) -> Result<(), Broken<SymFault>>
+    pub(crate) fn check_names(&self) -> Result<(), Broken<SymFault>>
         ensures { Tells result (first_broken (map (name_rule self.now.file.now self.now.strings.now)
             (places self.now.first 24 self.now.count))) }
     {
@@ -75,16 +78,60 @@ impl<'a> SymbolTable<'a> {
         Ok(())
     }
 
-    /// Its functions whose names are UTF-8, in order.
-    pub fn functions(&self, alloc: Global) -> Result<Vec<Symbol>, AllocError>
-        ensures { IfOk result (λ symbols. symbols.items ≡
-            flat_map (symbol_at self.now.file.now self.now.strings.now)
-            (places self.now.first 24 self.now.count)) }
+    /// The value of the symbol at a place of the file, if it is a function of this name.
+    fn value_named(&self, entry: usize, name: &str) -> Option<u64>
+        requires room { entry + 24 ≤ length self.now.file.now }
+        ensures { option_to_list result
+            ≡ values_of (symbol_at self.now.file.now self.now.strings.now entry) name.now }
     {
-        let mut symbols = Vec::new(alloc);
+        if is_named(self.file, self.strings, entry, name) {
+            Some(u64_at(self.file, entry + 8))
+        } else {
+            None
+        }
+    }
+
+    /// How many of its functions have the name, and the value of the first of them.
+    pub(crate) fn count_named(&self, name: &str) -> (u64, u64)
+        ensures count { result.0 ≡ length (values_of (listed (Some self.now)) name.now) }
+        ensures first { 0 < result.0
+            → result.1 ≡ slice_index (values_of (listed (Some self.now)) name.now) 0 }
+    {
+        let mut count = 0;
+        let mut first = 0;
+        for k in 0..self.count {
+            if let Some(value) = self.value_named(self.first + 24 * k, name) {
+                if count == 0 {
+                    first = value;
+                }
+                count += 1;
+            }
+        }
+        (count, first)
+    }
+
+    /// Adds its functions to the tallies, which are over no symbols.
+    pub(crate) fn add_all(&self, tallies: &mut Tallies)
+        requires { AreTallies [] 0 tallies.old }
+        ensures { AreTallies (listed (Some self.now)) self.now.count tallies.new }
+    {
         for k in 0..self.count {
             let entry = self.first + 24 * k;
-            add_symbol(&mut symbols, alloc, self.file, self.strings, entry)?;
+            let symbol = short_symbol_at(self.file, self.strings, entry, tallies.longest);
+            if let Some(symbol) = symbol {
+                tallies.add(symbol.name.text(), symbol.value);
+            }
+        }
+    }
+
+    /// Its functions whose names are UTF-8, in order.
+    pub(crate) fn functions(&self, alloc: Global) -> Result<Vec<Symbol<'a>>, AllocError>
+        ensures ok { IfOk result (λ symbols. symbols.items ≡ listed (Some self.now)) }
+    {
+        let mut symbols = Vec::with_capacity(alloc, self.count)?;
+        for k in 0..self.count {
+            let entry = self.first + 24 * k;
+            add_symbol(&mut symbols, self.file, self.strings, entry)?;
         }
         Ok(symbols)
     }

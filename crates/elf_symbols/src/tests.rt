@@ -1,6 +1,5 @@
-use crate::{Found, SymFault, Symbol, Symbols, SymbolsFault, functions};
+use crate::{Finder, Found, SymFault, SymbolTable, Symbols, SymbolsFault, functions};
 use elf_loader::load;
-use guest_words::Name;
 use std::alloc::{AllocError, Global};
 use std::test::Fail;
 
@@ -72,45 +71,61 @@ fn changed(alloc: Global, change: Change) -> Result<Vec<u8>, AllocError> {
 
 const NO_CHANGE: Change = (0, 0, 0);
 
-/// What the symbols of the program with a change are; it stays one that the loader accepts.
-fn read(alloc: Global, change: Change) -> Result<Result<Symbols, SymbolsFault>, Fail> {
-    let file = changed(alloc, change)?;
-    load(alloc, file.as_slice())?;
-    Ok(functions(alloc, file.as_slice()))
+/// The symbols of a program that the loader accepts.
+fn read(alloc: Global, file: &[u8]) -> Result<Result<Symbols<'_>, SymbolsFault>, Fail> {
+    load(alloc, file)?;
+    Ok(functions(file))
 }
 
 #[test]
 fn symbols_of_a_program(rt: HostRuntime) -> Result<(), Fail> {
-    let symbols = read(rt.alloc(), NO_CHANGE)??;
+    let file = changed(rt.alloc(), NO_CHANGE)?;
+    let symbols = read(rt.alloc(), &file)??.to_vec(rt.alloc())?;
     let wanted = [(0x10000, 0, "_start"), (0x100b0, 36, "handle")];
-    assert_eq!(rt; symbols.items().len(), 2);
-    for (symbol, (value, size, name)) in symbols.items().iter().zip(wanted) {
+    assert_eq!(rt; symbols.len(), 2);
+    for (symbol, (value, size, name)) in symbols.iter().zip(wanted) {
         assert_eq!(rt; (symbol.value, symbol.size), (value, size));
-        assert!(rt; symbol.name.items() == name);
+        assert!(rt; symbol.name.text() == name);
     }
     Ok(())
 }
 
 #[test]
 fn symbols_by_name(rt: HostRuntime) -> Result<(), Fail> {
-    let symbols = read(rt.alloc(), NO_CHANGE)??;
+    let file = changed(rt.alloc(), NO_CHANGE)?;
+    let symbols = read(rt.alloc(), &file)??;
     assert_eq!(rt; symbols.find("handle"), Found::One(0x100b0));
-    assert_eq!(rt; symbols.find("main"), Found::Absent);
-    let twice = read(rt.alloc(), (180, 4, 1))??;
-    assert_eq!(rt; twice.find("_start"), Found::Several(2));
+    for other in ["main", "handl", "handles", "", "_start\0handle"] {
+        assert_eq!(rt; symbols.find(other), Found::Absent);
+    }
+    let file = changed(rt.alloc(), (180, 4, 1))?;
+    assert_eq!(rt; read(rt.alloc(), &file)??.find("_start"), Found::Several(2));
     Ok(())
 }
 
 #[test]
-fn symbols_are_a_list(rt: HostRuntime) -> Result<(), Fail> {
-    let mut items = Vec::new(rt.alloc());
-    items.push(Symbol {
-        value: 7,
-        size: 0,
-        name: Name::of(String::from_str(rt.alloc(), "a")?),
-    })?;
-    assert_eq!(rt; Symbols::of(items).find("a"), Found::One(7));
+fn names_found_in_one_walk(rt: HostRuntime) -> Result<(), Fail> {
+    let file = changed(rt.alloc(), (180, 4, 1))?;
+    let symbols = read(rt.alloc(), &file)??;
+    let finder = Finder::of(rt.alloc(), &symbols, &["_start", "main", "_start\0handle"])?;
+    assert_eq!(rt; finder.find("_start"), Found::Several(2));
+    for other in ["main", "handle", "_start\0handle"] {
+        assert_eq!(rt; finder.find(other), Found::Absent);
+    }
     Ok(())
+}
+
+#[test]
+fn symbols_of_a_table(rt: HostRuntime) {
+    let mut file = [0; 24];
+    (file[4], file[6], file[8]) = (2, 1, 7);
+    let table = SymbolTable {
+        file: &file,
+        first: 0,
+        count: 1,
+        strings: b"a",
+    };
+    assert_eq!(rt; Symbols::of(Some(table)).find("a"), Found::One(7));
 }
 
 #[test]
@@ -123,8 +138,9 @@ fn symbols_left_out(rt: HostRuntime) -> Result<(), Fail> {
         ((186, 2, 0), 1),
         ((212, 1, 0xff), 1),
     ] {
-        let symbols = read(rt.alloc(), change)??;
-        assert_eq!(rt; symbols.items().len(), count, "{change:?}");
+        let file = changed(rt.alloc(), change)?;
+        let symbols = read(rt.alloc(), &file)??.to_vec(rt.alloc())?;
+        assert_eq!(rt; symbols.len(), count, "{change:?}");
     }
     Ok(())
 }
@@ -147,8 +163,9 @@ const FAULTS: [(Change, SymFault, u64); 11] = [
 #[test]
 fn refused_symbols(rt: HostRuntime) -> Result<(), Fail> {
     for (change, fault, offset) in FAULTS {
-        let answer = read(rt.alloc(), change)?.err();
-        let want = Some(SymbolsFault::Symbols { fault, offset });
+        let file = changed(rt.alloc(), change)?;
+        let answer = read(rt.alloc(), &file)?.err();
+        let want = Some(SymbolsFault { fault, offset });
         assert_eq!(rt; answer, want, "{change:?}");
     }
     Ok(())
@@ -156,7 +173,8 @@ fn refused_symbols(rt: HostRuntime) -> Result<(), Fail> {
 
 #[test]
 fn printed_refusal(rt: HostRuntime) -> Result<(), Fail> {
-    let text = read(rt.alloc(), (58, 2, 32))?.err().ok_or("refused")?;
+    let file = changed(rt.alloc(), (58, 2, 32))?;
+    let text = read(rt.alloc(), &file)?.err().ok_or("refused")?;
     let text = format!(in rt.alloc(); "{text}")?;
     assert!(rt; text.as_str() == "symbols section-size at 58");
     Ok(())

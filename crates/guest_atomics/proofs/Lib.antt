@@ -1,2 +1,3 @@
 mod EachHart
 mod FreeHarts
+mod IdleHarts

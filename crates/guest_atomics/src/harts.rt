@@ -1,17 +1,19 @@
-ghost use Rattle.std.specs.Prelude.{◌≡◌, ◌<◌, true, false, map, length, slice_get, IfOk};
+ghost use Rattle.std.specs.Prelude.{◌≡◌, ◌<◌, ◌≤◌, true, false, map, length, slice_get, IfOk};
 ghost use Rattle.std.specs.List.{All};
 ghost use Rattle.std.specs.Borrow.{sem};
-ghost use Rattle.guest_words.specs.Harts.{touched, unreserved};
+ghost use Rattle.guest_words.specs.Harts.{is_ready, touched, unreserved};
 ghost use Rattle.guest_atomics.specs.Free.{IsFree, IsFreeAt, IsFreeBut};
+ghost use Rattle.guest_atomics.specs.Idle.{IsIdleFrom};
 ghost use Rattle.guest_atomics.specs.Lending.{LendsHart};
 
 use crate::reservation::{release, touch};
-use guest_words::{Hart, MemoryWant};
+use guest_words::{Hart, HartState, MemoryWant};
 use std::alloc::Global;
 use std::marker::Model;
 
 /// The harts of a machine, by slot. They know whether a reservation may be held, so that a store
-/// need not look at each hart.
+/// need not look at each hart, and up to which slot harts have come, so that who looks for ready
+/// ones need not look at each slot.
 #[derive(Drop)]
 pub struct Harts {
     items: Vec<Hart>,
@@ -19,19 +21,21 @@ pub struct Harts {
     lent: usize,
     /// Whether another hart may have a reservation.
     others: bool,
+    /// No hart is ready from this slot on; the one that was lent last stands before it.
+    used: usize,
 }
 
 impl Model for Harts {
-    ghost use Rattle.std.specs.Prelude.{◌≡◌, List, false};
+    ghost use Rattle.std.specs.Prelude.{List};
     ghost use Rattle.guest_words.specs.declared.hart.Hart.{Hart};
 
     ghost Value = { List Hart };
 
-    ghost use Rattle.guest_atomics.specs.Free.{IsFreeBut};
+    ghost use Rattle.guest_atomics.specs.Idle.{IsKnown};
 
     ghost view = { λ h. h.items.items };
 
-    ghost invariant = { λ h. h.others ≡ false → IsFreeBut h.lent h.items.items };
+    ghost invariant = { λ h. IsKnown h.items.items h.lent h.others h.used };
 }
 
 impl Harts {
@@ -40,10 +44,12 @@ impl Harts {
         ensures list { result ≡ items.items }
     {
         let others = any_reservation(&items);
+        let used = ready_end(&items).max(1);
         Harts {
             items,
             lent: 0,
             others,
+            used,
         }
     }
 
@@ -65,6 +71,7 @@ impl Harts {
         if slot != self.lent {
             self.others = self.others || has_reservation(&self.items, self.lent);
             self.lent = slot;
+            self.used = self.used.max(slot + 1);
         }
         &mut self.items[slot]
     }
@@ -100,6 +107,14 @@ impl Harts {
         self.lent == slot && !self.others
     }
 
+    /// A slot from which on no hart is ready, seldom past those that have had a hart.
+    #[inline]
+    pub fn used(&self) -> usize
+        ensures idle { IsIdleFrom result self.now }
+    {
+        self.used
+    }
+
     /// Equal harts.
     pub fn copy(&self, alloc: Global) -> Result<Harts, MemoryWant>
         ensures ok { IfOk result (λ harts. harts ≡ self.now) }
@@ -108,6 +123,7 @@ impl Harts {
             items: Vec::from_slice(alloc, self.items.as_slice())?,
             lent: self.lent,
             others: self.others,
+            used: self.used,
         })
     }
 
@@ -135,6 +151,29 @@ fn any_reservation(harts: &[Hart]) -> bool
     ensures none { result ≡ false → All IsFree harts.now }
 {
     harts.iter().any(|hart| hart.reservation.is_some())
+}
+
+/// The slot behind the last ready hart; 0 where none is ready.
+fn ready_end(harts: &[Hart]) -> usize
+    ensures idle { IsIdleFrom result harts.now }
+    ensures within { result ≤ length harts.now }
+{
+    let mut end = 0;
+    for slot in 0..harts.len() {
+        if is_ready(&harts[slot]) {
+            end = slot + 1;
+        }
+    }
+    end
+}
+
+fn is_ready(hart: &Hart) -> bool
+    ensures value { result ≡ is_ready hart.now.state }
+{
+    match hart.state {
+        HartState::Ready => true,
+        _ => false,
+    }
 }
 
 fn end_touched(harts: &mut Vec<Hart>, address: u64, size: u64)

@@ -1,4 +1,5 @@
 mod EachPart
+mod IdleSlots
 mod Joins
 mod LastFrame
 mod OneChange

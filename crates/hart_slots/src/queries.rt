@@ -1,4 +1,4 @@
-ghost use Rattle.std.specs.Prelude.{◌≡◌, ◌==◌, true, length, map, slice_get};
+ghost use Rattle.std.specs.Prelude.{◌≡◌, ◌≤◌, ◌==◌, ℕ, true, false, length, map, slice_get};
 ghost use Rattle.std.specs.List.{list_any};
 ghost use Rattle.guest_words.specs.Harts.{is_ready};
 ghost use Rattle.guest_words.specs.CallChanges.{any_other, each_other, free_slot, is_live};
@@ -19,6 +19,15 @@ impl Slots {
             Some(hart) => is_ready(&hart.state),
             None => false,
         }
+    }
+
+    /// A slot from which on no hart is ready, seldom past those that have had a hart. Who looks for
+    /// ready harts need look no further.
+    pub fn used(&self) -> usize
+        ensures within { result ≤ length self.now }
+        ensures idle { (h : ℕ) → result ≤ h → is_ready_slot (slice_get self.now h) ≡ false }
+    {
+        self.len().min(self.harts.used())
     }
 
     /// Whether a hart is ready.

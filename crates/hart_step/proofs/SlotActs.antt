@@ -6,10 +6,13 @@ use Rattle.guest_words.specs.declared.act.Act.TheVariants as act
 use Rattle.guest_words.specs.declared.act.Write.{Write}
 use Rattle.guest_words.specs.declared.hart.Hart.{Hart}
 use Rattle.guest_words.specs.declared.hart.Slot.{Slot}
+use Rattle.guest_words.specs.declared.point.PointRef.{PointRef}
 use Rattle.guest_words.specs.Act.{act_of, act_of_slot, in_state}
 use Rattle.guest_words.specs.State.{State}
 use Rattle.run_history.specs.After.{moved, next}
 use Rattle.run_history.proofs.InstCases.{InstCases, hart_act_by}
+use Rattle.hart_step.specs.declared.next_act.NextAct.TheVariants as next_act
+use Rattle.hart_step.specs.Sees.{named, Sees}
 use Rattle.hart_step.specs.SlotActs.{act_at, slot_act, MayWrite}
 use Rattle.hart_step.specs.Noted.{notes_for, notes_of_act, notes_of_slot}
 use Rattle.hart_step.specs.Stops.{act_wants, slot_wants, wants_memory}
@@ -23,6 +26,10 @@ module _ {A : Type 0} (of_slot : Option Slot → A) (of_act : Act → A) (s : St
 pub act_of-at : (s : State) (h : ℕ) (a : Act) → act_at s h ≡ Some a → act_of s h ≡ in_state s h a
 unfolding act_of
 act_of-at s h a is = by_slot (act_of_slot s h) (in_state s h) s (slice_get s.slots h) a (λ slot. refl) is
+
+-- a hart that arrives at a point is seen to
+pub arrival-at : (s : State) (h : ℕ) (point : PointRef) → act_at s h ≡ Some (act.Arrived point) → Sees s h (next_act.Arrival point)
+arrival-at s h point is = ap named (act_of-at s h (act.Arrived point) is)
 
 pub wants-at : (noted : Bool) (s : State) (h : ℕ) (a : Act) → act_at s h ≡ Some a → wants_memory noted s h ≡ act_wants noted a
 wants-at noted s h a is = by_slot (slot_wants noted s) (act_wants noted) s (slice_get s.slots h) a (λ slot. refl) is

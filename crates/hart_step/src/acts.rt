@@ -26,6 +26,9 @@ impl Engine {
         requires within { hart < length self.now.state.slots }
         ensures value { Sees self.now.state hart result }
     {
+        if let Some(point) = self.arrival(hart) {
+            return NextAct::Arrival(point);
+        }
         match self.act(hart) {
             Act::Next { .. } => NextAct::Ordinary,
             Act::Fault(name) => NextAct::Fault(name),

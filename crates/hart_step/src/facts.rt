@@ -1,5 +1,5 @@
 //! What a hart does next, and what the reply to its call looks at.
-ghost use Rattle.std.specs.Prelude.{◌≡◌, ◌<◌, length, slice_get, Some};
+ghost use Rattle.std.specs.Prelude.{◌≡◌, ◌<◌, length, slice_get, IfSome, Some};
 ghost use Rattle.guest_words.specs.CallChanges.{facts_of, is_readable, is_usable, is_writable, place_for, tid_of, word_at};
 ghost use Rattle.guest_words.specs.Calls.{reply_of};
 ghost use Rattle.guest_words.specs.State.{is_open};
@@ -7,9 +7,10 @@ ghost use Rattle.hart_step.specs.SlotActs.{act_at, facts_for, mapped_for, FitsIn
 
 use crate::deciding::decide;
 use crate::engine::Engine;
+use crate::look::arrival;
 use guest_syscalls::answer;
 use guest_words::limits::{PAGE, TRANSFER};
-use guest_words::{Act, Facts, Reply, Request, Width};
+use guest_words::{Act, Facts, PointRef, Reply, Request, Width};
 
 impl Engine {
     /// The act of the hart in a slot, before its frames close.
@@ -21,6 +22,20 @@ impl Engine {
         match self.slots.hart(hart) {
             Some(alone) => decide(alone, &self.guest.memory, &self.guest.points, frames),
             None => unreachable!(),
+        }
+    }
+
+    /// The point at which the hart in a slot stands, if it arrives there next. Costs less than to
+    /// ask for the act.
+    #[tactic(auto, unfolding(guest_words::specs::HartAct::hart_act))]
+    pub(crate) fn arrival(&self, hart: u8) -> Option<PointRef>
+        ensures some { IfSome result (λ point.
+            act_at self.now.state hart ≡ Some (Act.Arrived point)) }
+    {
+        let frames = self.slots.frame_count(hart);
+        match self.slots.hart(hart) {
+            Some(alone) => arrival(&self.guest.points, frames, alone),
+            None => None,
         }
     }
 

@@ -98,6 +98,9 @@ impl Engine {
         ensures few { length log.new.notes ≤ length log.old.notes + result.count }
         ensures room { log.old.spare ≤ log.new.spare + result.count }
     {
+        if let Some(point) = self.arrival(hart) {
+            return Leg::last(0, Some(NextAct::Arrival(point)));
+        }
         if self.wants_memory(hart, noted) {
             return Leg::last(0, Some(self.next_act(hart)));
         }

@@ -1,5 +1,5 @@
 //! What can be read of the state. No call here takes memory, but for `bytes_at`.
-ghost use Rattle.std.specs.Prelude.{◌≡◌, ◌+◌, ◌^◌, ◌≤◌, ◌==◌, length, slice_get, IfOk};
+ghost use Rattle.std.specs.Prelude.{◌≡◌, ◌+◌, ◌^◌, ◌≤◌, ◌==◌, ℕ, false, length, slice_get, IfOk};
 ghost use Rattle.std.specs.Option.{option_copied, option_map};
 ghost use Rattle.guest_words.specs.CallChanges.{each_other};
 ghost use Rattle.guest_words.specs.declared.limits.TheConstants.{BUDGET, HARTS};
@@ -25,6 +25,16 @@ impl Engine {
         ensures most { length self.now.state.slots ≤ HARTS }
     {
         self.slots.len()
+    }
+
+    /// A slot from which on no hart is ready, seldom past those that have had a hart.
+    pub fn used(&self) -> usize
+        ensures within { result ≤ length self.now.state.slots }
+        ensures idle { (h : ℕ) → result ≤ h → is_ready_at self.now.state h ≡ false }
+        ensures most { length self.now.state.slots ≤ HARTS }
+    {
+        let _at_most_64 = self.slots.len();
+        self.slots.used()
     }
 
     /// The hart in a slot.

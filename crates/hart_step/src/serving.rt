@@ -1,5 +1,5 @@
 //! Changes of the state beside acts: entering a point, the answer of a device, a rescue, the end.
-ghost use Rattle.std.specs.Prelude.{◌≡◌, ◌+◌, ◌≤◌, true, false, length, map, slice_get, Some};
+ghost use Rattle.std.specs.Prelude.{◌≡◌, ◌+◌, ◌≤◌, true, false, drop, length, map, slice_get, take, Some};
 ghost use Rattle.std.specs.Prelude.{IfOk, OnErr, OnOk};
 ghost use Rattle.std.specs.Option.{option_map};
 ghost use Rattle.guest_words.specs.Act.{act_of, fits};
@@ -80,15 +80,28 @@ impl Engine {
     }
 
     /// Puts back what was kept where a hart entered its innermost frame, and memory by the notes
-    /// since then; the hart returns from the point for a fault, and the point has one rescue less.
+    /// since then, which are those from a position of the log on; the hart returns from the point
+    /// for a fault, and the point has one rescue less. The log forgets the notes that are put back.
     /// Takes no memory and is never refused.
-    pub fn take_back(&mut self, hart: u8, kept: Checkpoint, log: Log, point: PointRef, fault: Fault)
+    pub fn take_back(
+        &mut self,
+        hart: u8,
+        kept: Checkpoint,
+        log: &mut Log,
+        from: u64,
+        point: PointRef,
+        fault: Fault,
+    )
         requires count { length kept.harts ≡ length self.old.state.slots }
-        requires returns { CanReturn kept (space_before self.old log.notes) self.old.state.steps }
-        requires room { gone_in log.notes ≤ self.old.spare }
+        requires returns { CanReturn kept (space_before self.old (drop from log.old.notes))
+            self.old.state.steps }
+        requires room { gone_in (drop from log.old.notes) ≤ self.old.spare }
         ensures after { self.new.state ≡ rescued_from
-            (rolled_back self.old hart kept log.notes) hart point fault self.old.state }
-        ensures spare { self.new.spare ≡ (space_before self.old log.notes).spare }
+            (rolled_back self.old hart kept (drop from log.old.notes)) hart point fault
+            self.old.state }
+        ensures spare { self.new.spare ≡ (space_before self.old (drop from log.old.notes)).spare }
+        ensures notes { log.new.notes ≡ take from log.old.notes }
+        ensures room { log.old.spare ≤ log.new.spare }
     {
         let code = self.guest.points().code(point.entry, fault.name);
         let Checkpoint {
@@ -97,7 +110,7 @@ impl Engine {
             next_tid,
             ..
         } = kept;
-        log.undo(&mut self.guest);
+        log.undo_from(from, &mut self.guest);
         self.slots.put_back(hart, harts);
         self.queue.restore(queue);
         self.next_tid = next_tid;

@@ -21,8 +21,9 @@ use std::sync::Wait;
 use std::thread::{Threads, join};
 use stop_gate::{Door, Gate, Out};
 
-/// How many ordinary acts one step under the turn may make.
-const QUANTUM: u32 = 64;
+/// How many ordinary acts one step under the turn may make: so many that the hand-over costs little
+/// beside them.
+const QUANTUM: u32 = 512;
 
 /// A worker for each place, of the harts from `first` on, side by side. One of the passes comes
 /// back.

@@ -5,6 +5,9 @@ use std::alloc::{AllocError, Global};
 use std::sync::Wait;
 use std::sync::atomic::{AtomicU64, Ordering};
 
+/// A worker hasn't begun.
+const ABSENT: u64 = 3;
+
 /// A worker is to look at its hart.
 const AWAKE: u64 = 0;
 
@@ -13,6 +16,10 @@ const IDLE: u64 = 1;
 
 /// It sleeps at its word.
 const ASLEEP: u64 = 2;
+
+/// So often a worker looks, and lets others run between, before it falls asleep: about as long as
+/// the system takes to wake it.
+const LOOKS: u32 = 256;
 
 /// A word for the worker of each hart.
 ///
@@ -24,13 +31,28 @@ pub struct Sleepers {
 }
 
 impl Sleepers {
-    /// All workers of so many harts, awake.
+    /// All workers of so many harts, none of which has begun.
     pub fn new(alloc: Global, harts: u8) -> Result<Sleepers, AllocError> {
         let mut words = Vec::new(alloc);
         for _ in 0..harts {
-            words.push(AtomicU64::new(AWAKE))?;
+            words.push(AtomicU64::new(ABSENT))?;
         }
         Ok(Sleepers { words })
+    }
+
+    /// The worker of the hart begins.
+    pub fn begin(&self, hart: u8) {
+        if let Some(word) = self.words.get(usize::from(hart)) {
+            word.store(AWAKE, Ordering::SeqCst);
+        }
+    }
+
+    /// Whether the worker of the hart hasn't begun.
+    pub fn is_absent(&self, hart: u8) -> bool {
+        match self.words.get(usize::from(hart)) {
+            Some(word) => word.load(Ordering::SeqCst) == ABSENT,
+            None => false,
+        }
     }
 
     /// The hart isn't ready, as its worker has found, which still has the machine.
@@ -60,22 +82,25 @@ impl Sleepers {
             return;
         };
         let pause = Backoff::new();
+        let mut looks = 0;
         for _ in rt.forever() {
             if word.load(Ordering::SeqCst) == AWAKE {
                 return;
             }
-            if pause.is_completed() {
-                fall_asleep(rt, word);
-            } else {
+            if looks < LOOKS {
+                looks += 1;
                 pause.snooze();
+            } else {
+                fall_asleep(rt, word);
             }
         }
     }
 }
 
-/// Wakes the worker of this word, unless it is awake.
+/// Wakes the worker of this word, unless it is awake or hasn't begun.
 fn wake(word: &AtomicU64) {
-    if word.load(Ordering::SeqCst) != AWAKE && word.swap(AWAKE, Ordering::SeqCst) == ASLEEP {
+    let rests = matches!(word.load(Ordering::SeqCst), IDLE | ASLEEP);
+    if rests && word.swap(AWAKE, Ordering::SeqCst) == ASLEEP {
         word.wake_one();
     }
 }

@@ -104,6 +104,9 @@ impl<'a, K: Origin> Worker<'a, K> {
     {
         let (mut worker, mut pass) = (self, pass);
         let mut pause = Pause::new();
+        if let Some(sleepers) = worker.sleepers {
+            sleepers.begin(worker.hart);
+        }
         for _ in rt.forever() {
             door.ask(worker.hart);
             match worker.turn(gate, pass, text, points) {
@@ -117,8 +120,13 @@ impl<'a, K: Origin> Worker<'a, K> {
                     pause.short();
                 }
                 (next, Turned::Idle) => {
+                    let (next, stood) = worker.stand_in(rt, gate, next);
                     pass = next;
-                    pause.long(rt, worker.sleepers, worker.hart);
+                    if stood {
+                        pause.short();
+                    } else {
+                        pause.long(rt, worker.sleepers, worker.hart);
+                    }
                 }
                 (next, Turned::Arrived) => {
                     let (hart, quantum) = (worker.hart, worker.quantum);
@@ -128,6 +136,38 @@ impl<'a, K: Origin> Worker<'a, K> {
             }
         }
         unreachable!()
+    }
+
+    /// Steps the harts below its own whose workers haven't begun, and answers whether there are any.
+    ///
+    /// Where no thread can be had, these begin only once this worker has ended, so it mustn't wait
+    /// for them. The worker of the last hart always begins first.
+    fn stand_in<R: Wait, S: Source, T: Sink, P: Port>(
+        &self,
+        rt: &R,
+        gate: &Gate<Quiet<K, S, T, P>>,
+        pass: Out<Quiet<K, S, T, P>>,
+    ) -> (Out<Quiet<K, S, T, P>>, bool)
+        requires gate { IsOf gate.now pass }
+        requires shared { K.mode ≡ Mode.Shared }
+        ensures gate { IsOf gate.now result.0 }
+    {
+        let (mut pass, mut stood) = (pass, false);
+        for hart in 0..self.hart {
+            if self.is_absent(hart) {
+                pass = turn_alone(rt, gate, pass, hart, self.quantum, self.sleepers);
+                stood = true;
+            }
+        }
+        (pass, stood)
+    }
+
+    /// Whether the worker of the hart is known not to have begun.
+    fn is_absent(&self, hart: u8) -> bool {
+        match self.sleepers {
+            Some(sleepers) => sleepers.is_absent(hart),
+            None => false,
+        }
     }
 
     /// One try: it enters, makes the stretch that was begun, takes the machine, acts, and gives it

@@ -1,5 +1,5 @@
 -- The ready slots, one slot at a time.
-use Rattle.std.proofs.Common.{◌≡◌, ℕ, zero, suc, ◌+◌, ◌-◌, ◌<◌, true, false, if◌then◌else◌, List, [], ◌∷◌, length, drop, slice_get, refl, ap, sym, ◌∙◌, arith}
+use Rattle.std.proofs.Common.{◌≡◌, ℕ, zero, suc, ◌+◌, ◌-◌, ◌<◌, ◌≤◌, true, false, if◌then◌else◌, List, [], ◌∷◌, length, drop, slice_get, refl, ap, sym, ◌∙◌, arith}
 use Rattle.guest_words.specs.declared.hart.Slot.{Slot}
 use Rattle.run_history.specs.Legal.{is_ready_slot}
 use Rattle.lone_schedule.specs.Choice.{ready_from}
@@ -27,13 +27,16 @@ pub ready_past : (slots : List Slot) (h : ℕ) → h < length slots → is_ready
     → ready_from h (drop h slots) ≡ ready_from (h + 1) (drop (h + 1) slots)
 ready_past slots h less is = ready_next slots h h less ∙ ap (λ b. if b then h ∷ Rest h h slots else Rest h h slots) is
 
-drop_all : (slots : List Slot) → drop (length slots) slots ≡ []
-drop_all [] = refl
-drop_all (slot ∷ slots) = drop_all slots
-
-pub ready_end : (slots : List Slot) (h k : ℕ) → k ≡ length slots → ready_from h (drop k slots) ≡ []
+-- from where no slot is ready none comes
+pub ready_none : (slots : List Slot) (h k : ℕ) → ((j : ℕ) → k ≤ j → is_ready_slot (slice_get slots j) ≡ false)
+    → ready_from h (drop k slots) ≡ []
 unfolding ready_from
-ready_end slots h k is = ap (λ n. ready_from h (drop n slots)) is ∙ ap (ready_from h) (drop_all slots)
+ready_none [] h zero idle = refl
+ready_none [] h (suc k) idle = refl
+ready_none (slot ∷ slots) h (suc k) idle = ready_none slots h k (λ j behind. idle (suc j) (omega (arith, behind)))
+ready_none (slot ∷ slots) h zero idle =
+    ap (λ b. if b then h ∷ ready_from (h + 1) slots else ready_from (h + 1) slots) (idle zero (omega arith))
+    ∙ ready_none slots (h + 1) zero (λ j behind. idle (suc j) (omega arith))
 
 -- the item at a place behind the first one
 pub get_later : (x n : ℕ) (xs : List ℕ) → ¬ (n ≡ 0) → slice_get (x ∷ xs) n ≡ slice_get xs (n - 1)

@@ -9,7 +9,7 @@ fn count_ready<K: Origin, S: Source, T: Sink, P: Port>(machine: &Quiet<K, S, T, 
     ensures value { result ≡ length (ready_slots machine.now.state) }
 {
     let mut count = 0;
-    for hart in 0..machine.harts() as u8 {
+    for hart in 0..machine.used() as u8 {
         if machine.is_ready(hart) {
             count += 1;
         }
@@ -25,7 +25,7 @@ fn ready_at<K: Origin, S: Source, T: Sink, P: Port>(
     ensures value { result ≡ slice_get (ready_slots machine.now.state) place }
 {
     let mut left = place;
-    for hart in 0..machine.harts() as u8 {
+    for hart in 0..machine.used() as u8 {
         if machine.is_ready(hart) {
             if left == 0 {
                 return Some(hart);

@@ -1,5 +1,5 @@
 -- A call on a device, and acts in a row: what they keep, and where they lead.
-use Rattle.std.proofs.Common.{◌≡◌, ℕ, ◌+◌, ◌<◌, ◌≤◌, true, false, List, [], ◌∷◌, ◌++◌, length, refl, ap, sym, ◌∙◌, subst, arith, eq-eqb}
+use Rattle.std.proofs.Common.{◌≡◌, ℕ, ◌<◌, ◌≤◌, true, false, [], ◌∷◌, ◌++◌, refl, ap, sym, ◌∙◌, subst, eq-eqb}
 use Rattle.guest_words.specs.declared.record.Record.{Record}
 use Rattle.guest_words.specs.Act.{StateAct, Ordinary, Fault, Request, Arrival, End, Absent, act_of, fits}
 use Rattle.guest_words.specs.Endings.{is_budget_spent}
@@ -7,7 +7,7 @@ use Rattle.guest_words.specs.State.{State, frames_at}
 use Rattle.edge_ports.specs.DevicesMatch.{DevicesMatch}
 use Rattle.edge_ports.specs.Seen.{Seen, open_ports}
 use Rattle.undo_log.specs.Noted.{Noted}
-use Rattle.run_history.specs.declared.entry.Entry.{Entry, Ran, Called}
+use Rattle.run_history.specs.declared.entry.Entry.{Called}
 use Rattle.run_history.specs.After.{after, called, ran}
 use Rattle.run_history.specs.Ahead.{ahead}
 use Rattle.run_history.specs.LastEntry.{with_acts}
@@ -24,8 +24,7 @@ use Rattle.hart_step.specs.Live.{space_of}
 use Rattle.open_calls.specs.Nest.{flat}
 use Rattle.machine_core.specs.Inner.{Holds, Inner, IsGoing, opened_in, whole_in}
 use Rattle.machine_core.specs.Kept.{HasDevices}
-use Rattle.machine_core.specs.Machine.{history_of}
-use Rattle.machine_core.specs.OpenSteps.{Acts, Does, DoesBy, StaysOpen, StepsTo}
+use Rattle.machine_core.specs.OpenSteps.{Acts, Does, DoesBy, StaysOpen}
 use Rattle.machine_core.specs.QuietSteps.{CallsOn}
 use Rattle.machine_core.specs.Served.{OpenOnes, ServedBy}
 use Rattle.machine_core.specs.Under.{Goes}
@@ -47,22 +46,22 @@ module _ (start : State) (told : Seen) (w v : Inner) (p q : Noted) (k : Holds st
 
   -- a call on a device
 
-  module _ (call : Record) (fit : fits w.live.state (act_of w.live.state w.hart) call ≡ true) (to : v.live.state ≡ called w.live.state w.hart call) (x : Puts (λ es. es ++ Called w.hart call ∷ []) w v) where
+  module _ (call : Record) (fit : fits w.live.state (act_of w.live.state w.hart) call ≡ true) (to : v.live.state ≡ called w.live.state w.hart call) (x : Puts (λ es. es ++ Called w.hart call ∷ []) w v p q) where
     ok : legal w.live.state (Called w.hart call) ≡ true
     ok = legal-Called w.live.state w.hart call may fit
 
     to_after : v.live.state ≡ after w.live.state (Called w.hart call)
     to_after = to ∙ sym (after-Called w.live.state w.hart call)
 
-    pub asks_hold : q.notes ≡ [] → Holds start told v q
-    asks_hold none =
+    pub asks_hold : Holds start told v q
+    asks_hold =
         let s = w.live.state in
         let e = Called w.hart call in
         puts start told w v p q (λ es. es ++ e ∷ []) (after s e) k g to_after
         (subst (λ (t : State). frames_at t w.hart ≤ frames_at s w.hart) (sym (after-Called s w.hart call)) (called_fewer s w.hart call w.hart))
         (λ some. subst (λ t. IsUnder t w.hart) (sym (after-Called s w.hart call)) (called_under s w.hart g.under call))
         (ap (λ t. is_alone t w.hart) (after-Called s w.hart call) ∙ alone_called s w.hart w.hart call g.under.alone)
-        (adds_entry start w.hart e s (space_of w.live) (space_of v.live) (eq-eqb w.hart w.hart refl) ok) x none
+        (adds_entry start w.hart e s (space_of w.live) (space_of v.live) (eq-eqb w.hart w.hart refl) ok) x
 
     pub asks : (d e : Seen) → ServedBy call d e → CallsOn w.hart (whole_in w d) (whole_in v e)
     asks d e served = record {
@@ -70,7 +69,7 @@ module _ (start : State) (told : Seen) (w v : Inner) (p q : Noted) (k : Holds st
       legal = ok;
       served = served;
       same = λ i. record {
-        history = puts_push (Called w.hart call ∷ []) w v x i;
+        history = puts_push (Called w.hart call ∷ []) w v p q x i;
         state = to_after i;
         devices = e;
         abandoned = x.kept i;
@@ -88,12 +87,12 @@ module _ (start : State) (told : Seen) (w v : Inner) (p q : Noted) (k : Holds st
 
   -- acts in a row
 
-  module _ (n : ℕ) (some : 0 < n) (goes : can_run w.live.state w.hart n ≡ true) (to : v.live.state ≡ ran w.live.state w.hart n) (x : Puts (with_acts w.hart n) w v) where
-    pub acts_hold : q.notes ≡ [] → Holds start told v q
-    acts_hold none =
+  module _ (n : ℕ) (some : 0 < n) (goes : can_run w.live.state w.hart n ≡ true) (to : v.live.state ≡ ran w.live.state w.hart n) (x : Puts (with_acts w.hart n) w v p q) where
+    pub acts_hold : Holds start told v q
+    acts_hold =
         let s = w.live.state in
         puts start told w v p q (with_acts w.hart n) (ran s w.hart n) k g to (ran_fewer s w.hart n w.hart) (ran_under s w.hart g.under n)
-        (alone_ran s w.hart n w.hart g.under.alone) (adds_acts start w.hart n s (space_of w.live) (space_of v.live) some may goes) x none
+        (alone_ran s w.hart n w.hart g.under.alone) (adds_acts start w.hart n s (space_of w.live) (space_of v.live) some may goes) x
 
     pub acts_records : v.live.state.records ≡ w.live.state.records
     acts_records = ap (λ (s : State). s.records) to ∙ ap (λ (r : Rest). r.records) (ran_keeps w.live.state w.hart n)
@@ -113,7 +112,7 @@ module _ (start : State) (told : Seen) (w v : Inner) (p q : Noted) (k : Holds st
           goes = goes;
           stays = stays;
           same = λ i. record {
-            history = puts_acts n w v x i;
+            history = puts_acts n w v p q x i;
             state = to i;
             devices = d;
             abandoned = (x.kept ∙ g.kept) i;
@@ -121,7 +120,7 @@ module _ (start : State) (told : Seen) (w v : Inner) (p q : Noted) (k : Holds st
         } in
         record {
           steps = subst (λ b. DoesBy start (opened_in w d) b (whole_in v d)) (sym fresh) (by (act_of s w.hart) (can_ordinary s w.hart (goes-first s w.hart n some goes)) does);
-          under = puts_under (with_acts w.hart n) w v x;
+          under = puts_under (with_acts w.hart n) w v p q x;
           nearer = λ going. acts_nearer;
         }
       where

@@ -1,5 +1,5 @@
 -- The beginning of a call, as the machine is seen.
-use Rattle.std.proofs.Common.{◌≡◌, ℕ, ◌<◌, [], false, length, Some, ap, sym, ◌∙◌, subst, arith}
+use Rattle.std.proofs.Common.{◌≡◌, ℕ, [], Some, ap, sym, ◌∙◌, arith}
 use Rattle.guest_words.specs.declared.point.PointRef.{PointRef}
 use Rattle.guest_words.specs.State.{frames_at}
 use Rattle.edge_ports.specs.Seen.{Seen}

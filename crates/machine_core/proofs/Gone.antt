@@ -1,16 +1,13 @@
 -- How many pages may come back: as notes are joined, put back and closed away.
-use Rattle.std.proofs.Common.{◌≡◌, ℕ, ◌+◌, ◌-◌, ◌≤◌, Bool, true, false, nat_lt, if◌then◌else◌, List, [], ◌∷◌, ◌++◌, length, cond, refl, ap, ◌∙◌, arith}
-use Rattle.std.proofs.lemmas.List.Sums.{sum_by-append, sum_by-cons}
+use Rattle.std.proofs.Common.{◌≡◌, ◌+◌, ◌-◌, ◌≤◌, List, [], ◌∷◌, ◌++◌, cond, arith}
+use Rattle.std.proofs.lemmas.List.Sums.{sum_by-append}
 use Rattle.guest_memory.specs.Kept.{AddressSpace}
 use Rattle.guest_memory.specs.Returning.{can_return, is_in_heap, put_back}
 use Rattle.guest_pages.specs.Paged.{with_page}
 use Rattle.undo_log.specs.declared.note.Note.{Note}
 use Rattle.undo_log.specs.declared.note.Note.TheVariants as note
 use Rattle.undo_log.specs.Undo.{undone, gone_in, is_gone}
-use Rattle.run_history.specs.declared.entry.Entry.{Entry}
 use Rattle.run_history.proofs.Ands.{if_by}
-use Rattle.open_calls.specs.Nest.{Level, Nest, closing, joined}
-use Rattle.machine_core.specs.Inner.{gone_below, gone_of}
 
 pub gone_in-append : (xs ys : List Note) → gone_in (xs ++ ys) ≡ gone_in xs + gone_in ys
 gone_in-append xs ys = sum_by-append (λ n. cond (is_gone n) 1 0) xs ys
@@ -34,12 +31,3 @@ undone_spare (x ∷ ns) m =
     let this = put_back_spare (undone put_back ns m) x in
     let all = gone_in-cons x ns in
     omega (arith, newer, this, all)
-
--- calls that close keep all of it
-pub gone_closed : (h keep : ℕ) (os : List Level) (es : List Entry) (ns : List Note) → gone_of (closing h keep os es ns) ≡ gone_in ns + gone_below os
-gone_closed h keep [] es ns = refl
-gone_closed h keep (o ∷ os) es ns =
-    let further = gone_closed h keep os (joined h o es) (o.notes ++ ns) in
-    let all = gone_in-append o.notes ns in
-    if_by (λ (n : Nest). gone_of n ≡ gone_in ns + gone_below (o ∷ os)) (nat_lt (length os) keep) (record { outers = o ∷ os; entries = es; notes = ns }) (closing h keep os (joined h o es) (o.notes ++ ns))
-    (λ e. refl) (λ e. omega (arith, further, all))

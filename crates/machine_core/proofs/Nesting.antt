@@ -1,10 +1,8 @@
 -- The whole history of open calls, and the entries before the outermost, over what is put to them.
 use Rattle.std.proofs.Common.{◌≡◌, ℕ, zero, suc, ◌<◌, Bool, true, false, nat_lt, if◌then◌else◌, List, [], ◌∷◌, ◌++◌, length, refl, ap, sym, ◌∙◌, arith}
 use Rattle.guest_words.specs.declared.point.PointRef.{PointRef}
-use Rattle.undo_log.specs.declared.note.Note.{Note}
 use Rattle.run_history.specs.declared.entry.Entry.{Entry, Ran, Entered}
 use Rattle.run_history.specs.LastEntry.{ends_in_ran_of, lengthened_by, with_acts, with_ran}
-use Rattle.run_history.proofs.Ands.{if_by}
 use Rattle.open_calls.specs.Nest.{Level, Nest, closing, flat_from, joined, lowest, lowest_from}
 
 -- acts behind entries of which the last is behind another
@@ -43,26 +41,26 @@ abbrev outers_of : Nest → List Level
 outers_of n = n.outers
 
 -- and so do calls that close
-pub lowest_closed : (h keep : ℕ) (os : List Level) (es : List Entry) (ns : List Note) → 0 < length (closing h keep os es ns).outers → lowest (closing h keep os es ns) ≡ lowest_from os es
-lowest_closed h keep [] es ns some = refl
-lowest_closed h keep (o ∷ []) es ns some = by (nat_lt 0 keep) some
+pub lowest_closed : (h keep : ℕ) (os : List Level) (es : List Entry) → 0 < length (closing h keep os es).outers → lowest (closing h keep os es) ≡ lowest_from os es
+lowest_closed h keep [] es some = refl
+lowest_closed h keep (o ∷ []) es some = by (nat_lt 0 keep) some
   where
     here : Nest
-    here = record { outers = o ∷ []; entries = es; notes = ns }
+    here = record { outers = o ∷ []; entries = es }
 
     out : Nest
-    out = record { outers = []; entries = joined h o es; notes = o.notes ++ ns }
+    out = record { outers = []; entries = joined h o es }
 
     by : (b : Bool) → 0 < length (outers_of (if b then here else out)) → lowest (if b then here else out) ≡ o.entries
     by true left = refl
     by false left = absurd (omega (arith, left))
-lowest_closed h keep (o ∷ (p ∷ ps)) es ns some = by (nat_lt (length (p ∷ ps)) keep) some (lowest_closed h keep (p ∷ ps) (joined h o es) (o.notes ++ ns))
+lowest_closed h keep (o ∷ (p ∷ ps)) es some = by (nat_lt (length (p ∷ ps)) keep) some (lowest_closed h keep (p ∷ ps) (joined h o es))
   where
     here : Nest
-    here = record { outers = o ∷ (p ∷ ps); entries = es; notes = ns }
+    here = record { outers = o ∷ (p ∷ ps); entries = es }
 
     further : Nest
-    further = closing h keep (p ∷ ps) (joined h o es) (o.notes ++ ns)
+    further = closing h keep (p ∷ ps) (joined h o es)
 
     by : (b : Bool) → 0 < length (outers_of (if b then here else further)) → (0 < length further.outers → lowest further ≡ lowest_from ps p.entries)
         → lowest (if b then here else further) ≡ lowest_from (p ∷ ps) o.entries

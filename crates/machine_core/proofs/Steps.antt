@@ -1,5 +1,5 @@
 -- What a step under open calls is, by the act that was seen.
-use Rattle.std.proofs.Common.{◌≡◌, ℕ, zero, suc, ◌<◌, ◌≤◌, Bool, true, false, List, [], ◌∷◌, length, Option, Some, None, Ok, Err, OnOk, refl, ap, sym, ◌∙◌, subst, arith, slice_get}
+use Rattle.std.proofs.Common.{◌≡◌, ℕ, zero, suc, ◌<◌, ◌≤◌, true, false, List, [], ◌∷◌, length, Some, None, Ok, Err, OnOk, ap, sym, ◌∙◌, subst, arith, slice_get}
 use Rattle.std.specs.declared.result.Result.{Result}
 use Rattle.guest_words.specs.declared.ending.Ending.{Ending}
 use Rattle.guest_words.specs.declared.ending.Ending.TheVariants as ending
@@ -11,15 +11,12 @@ use Rattle.guest_words.specs.Endings.{is_budget_spent}
 use Rattle.guest_words.specs.State.{State}
 use Rattle.edge_ports.specs.DevicesMatch.{DevicesMatch}
 use Rattle.edge_ports.specs.Seen.{Seen}
-use Rattle.run_history.specs.declared.entry.Entry.{Ended}
-use Rattle.run_history.specs.After.{after}
 use Rattle.run_history.specs.Ahead.{ahead}
 use Rattle.run_history.specs.Faults.{fault_by, fault_of, pc_at}
 use Rattle.run_history.specs.Legal.{is_ready_slot}
 use Rattle.run_history.proofs.Ahead.{ahead_called, ahead_ran}
 use Rattle.run_history.proofs.Entries.{after-Ended}
 use Rattle.hart_step.specs.declared.next_act.Ask.{Ask}
-use Rattle.hart_step.specs.declared.next_act.NextAct.{NextAct}
 use Rattle.hart_step.specs.declared.next_act.NextAct.TheVariants as next_act
 use Rattle.hart_step.specs.Sees.{Sees, named}
 use Rattle.machine_core.specs.Inner.{Inner, IsGoing, IsUnderSame, opened_in, whole_in}

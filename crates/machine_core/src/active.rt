@@ -10,7 +10,6 @@ ghost use Rattle.machine_core.specs.OpenSteps.{abandoned_of, GoesTo};
 use crate::machine::{Active, Core, Next, Quiet};
 use crate::origin::Origin;
 use edge_ports::{Port, Sink, Source};
-use undo_log::Log;
 
 impl<K: Origin, S: Source, T: Sink, P: Port> Active<K, S, T, P> {
     /// The hart's next act, or ordinary acts in a row. A fault takes the innermost call back, and
@@ -26,6 +25,7 @@ impl<K: Origin, S: Source, T: Sink, P: Port> Active<K, S, T, P> {
             return Next::Memory(Active { core });
         }
         if parts.inner.is_under() {
+            parts.inner.thin();
             return Next::Active(Active { core });
         }
         parts.inner.rest();
@@ -61,12 +61,13 @@ impl<K: Origin, S: Source, T: Sink, P: Port> Active<K, S, T, P> {
         core.inner.depth()
     }
 
-    /// The notes of a frame's call up to the entering of the next, the outermost frame being 0.
-    pub fn log(&self, frame: usize) -> &Log
+    /// How many notes a frame's call has up to the entering of the next, the outermost frame being
+    /// 0.
+    pub fn notes(&self, frame: usize) -> u64
         requires open { frame < length self.now.nest.outers }
-        ensures notes { result.now.notes ≡ notes_in frame self.now.nest }
+        ensures value { result ≡ notes_in frame self.now.notes self.now.nest }
     {
         let core: &Core<K, S, T, P> = &self.core;
-        core.inner.log(frame)
+        core.inner.notes(frame)
     }
 }

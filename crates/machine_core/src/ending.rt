@@ -27,11 +27,10 @@ impl<K: Origin> Inner<K> {
         ensures none { OnOk result (self.new.nest.outers ≡ []) }
         ensures err { OnErr result (self.new ≡ self.old) }
     {
-        make_room(&mut self.calls, &mut self.pending, 0)?;
+        make_room(&mut self.calls, &mut self.log, 0)?;
         self.engine.end(ending);
         self.calls.close_to(0);
-        self.calls
-            .append(Entry::Ended { ending }, &mut self.pending);
+        self.calls.append(Entry::Ended { ending });
         Ok(())
     }
 

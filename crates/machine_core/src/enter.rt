@@ -11,6 +11,7 @@ use crate::inner::Inner;
 use crate::origin::Origin;
 use crate::room::make_room;
 use guest_words::{MemoryWant, PointRef};
+use open_calls::Calls;
 
 impl<K: Origin> Inner<K> {
     /// Opens the call of the point at which the hart stands, within those that are open. Takes
@@ -31,11 +32,12 @@ impl<K: Origin> Inner<K> {
         ensures err { OnErr result (self.new ≡ self.old) }
     {
         let hart = self.calls.hart();
-        make_room(&mut self.calls, &mut self.pending, 0)?;
-        let part = self.calls.next_part(self.alloc)?;
+        make_room(&mut self.calls, &mut self.log, 0)?;
+        let list = Calls::next_list(self.alloc)?;
         let kept = self.engine.checkpoint(self.alloc, self.calls.length())?;
         self.engine.enter(hart, point)?;
-        self.calls.open(point, kept, part);
+        let mark = self.log.length();
+        self.calls.open(point, kept, mark, list);
         Ok(())
     }
 }

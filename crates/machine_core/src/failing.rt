@@ -32,11 +32,12 @@ impl<K: Origin> Inner<K> {
         let hart = self.calls.hart();
         let Taken {
             inside,
-            log,
+            mark,
             point,
             kept,
         } = self.calls.take_back();
-        self.engine.take_back(hart, kept, log, point, fault);
+        self.engine
+            .take_back(hart, kept, &mut self.log, mark, point, fault);
         self.calls.close_to(self.engine.frame_count(hart));
         let entry = Entry::Rescued {
             hart,
@@ -44,7 +45,7 @@ impl<K: Origin> Inner<K> {
             fault,
             inside: inside.into_inside(),
         };
-        self.calls.append(entry, &mut self.pending);
+        self.calls.append(entry);
     }
 
     /// The fault of this name that the hart is seen to make.

@@ -18,6 +18,7 @@ ghost use Rattle.run_history.specs.Quiet.{is_quiet};
 use crate::inner::Inner;
 use crate::origin::Origin;
 use crate::start_points::StartPoints;
+use crate::thinning::MANY;
 use guest_words::{Ending, Hart, Image, MemoryWant, Points};
 use hart_step::{Engine, Text};
 use open_calls::Calls;
@@ -44,7 +45,8 @@ impl<K: Origin> Inner<K> {
         requires starts { IsStart K.state K.devices }
         ensures ok { IfOk result (λ inner. inner ≡ record {
           hart = 0;
-          nest = record { outers = []; entries = []; notes = [] };
+          nest = record { outers = []; entries = [] };
+          notes = 0;
           live = record { state = K.state; spare = 0 };
           abandoned = false;
         }) }
@@ -52,7 +54,8 @@ impl<K: Origin> Inner<K> {
         Ok(Inner {
             engine: Engine::start(alloc, image, points, harts, ports, budget)?,
             calls: Calls::none(alloc, 0)?,
-            pending: Log::new(alloc),
+            log: Log::new(alloc),
+            thin_at: MANY,
             abandoned: false,
             start_points: StartPoints::of(alloc, points)?,
             alloc,
@@ -72,11 +75,10 @@ impl<K: Origin> Inner<K> {
     /// Forgets the notes of what can't be taken back any more.
     pub(crate) fn rest(&mut self)
         requires none { self.old.nest.outers ≡ [] }
-        ensures same { self.new ≡ record self.old {
-          nest = record self.old.nest { notes = [] };
-        } }
+        ensures same { self.new ≡ record self.old { notes = 0 } }
     {
-        self.calls.forget_notes();
+        self.log.clear();
+        self.thin_at = MANY;
     }
 
     /// Whether a call is open.
@@ -131,12 +133,12 @@ impl<K: Origin> Inner<K> {
         self.calls.depth()
     }
 
-    /// The notes of a call, the outermost being 0, up to the entering of the next.
-    pub(crate) fn log(&self, call: usize) -> &Log
+    /// How many notes a call has, the outermost being 0, up to the entering of the next.
+    pub(crate) fn notes(&self, call: usize) -> u64
         requires open { call < length self.now.nest.outers }
-        ensures notes { result.now.notes ≡ notes_in call self.now.nest }
+        ensures value { result ≡ notes_in call self.now.notes self.now.nest }
     {
-        self.calls.log(call)
+        self.calls.notes(call, self.log.length())
     }
 
     /// How the run has ended, if it has.

@@ -12,8 +12,10 @@ use undo_log::Log;
 pub struct Inner<K: Origin> {
     pub(crate) engine: Engine,
     pub(crate) calls: Calls,
-    /// Room for the notes of one step; empty between steps.
-    pub(crate) pending: Log,
+    /// What the acts in open calls overwrote, for all of them.
+    pub(crate) log: Log,
+    /// With so many notes in the innermost call those go that nothing is put back by.
+    pub(crate) thin_at: u64,
     pub(crate) abandoned: bool,
     pub(crate) start_points: StartPoints<K>,
     pub(crate) alloc: Global,
@@ -38,8 +40,8 @@ impl<K: Origin> Model for Inner<K> {
       kept.the_row.coded,
     ) };
 
-    ghost view = { λ m. inner_of m.engine m.calls m.abandoned };
+    ghost view = { λ m. inner_of m.engine m.calls m.log m.abandoned };
 
     ghost invariant = { λ m. Holds K.state K.devices
-        (inner_of m.engine m.calls m.abandoned) m.pending };
+        (inner_of m.engine m.calls m.log m.abandoned) m.log };
 }

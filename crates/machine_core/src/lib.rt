@@ -23,6 +23,7 @@ mod serve;
 mod start_points;
 mod stepped;
 mod stretches;
+mod thinning;
 mod turns;
 mod under;
 

@@ -1,5 +1,5 @@
 //! What can be read of a machine with no call open. No call here takes memory.
-ghost use Rattle.std.specs.Prelude.{◌≡◌, ◌≤◌, length, slice_get};
+ghost use Rattle.std.specs.Prelude.{◌≡◌, ◌≤◌, ℕ, false, length, slice_get};
 ghost use Rattle.std.specs.Option.{option_copied, option_map};
 ghost use Rattle.guest_words.specs.declared.limits.TheConstants.{HARTS};
 ghost use Rattle.hart_slots.specs.Rejoined.{hart_of};
@@ -63,6 +63,16 @@ impl<K: Origin, S: Source, T: Sink, P: Port> Quiet<K, S, T, P> {
     {
         let core: &Core<K, S, T, P> = &self.core;
         core.inner.engine.harts()
+    }
+
+    /// A slot from which on no hart is ready, seldom past those that have had a hart.
+    pub fn used(&self) -> usize
+        ensures within { result ≤ length self.now.state.slots }
+        ensures idle { (h : ℕ) → result ≤ h → is_ready_at self.now.state h ≡ false }
+        ensures most { length self.now.state.slots ≤ HARTS }
+    {
+        let core: &Core<K, S, T, P> = &self.core;
+        core.inner.engine.used()
     }
 
     /// The hart in a slot.

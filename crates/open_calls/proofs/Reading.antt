@@ -1,27 +1,26 @@
--- The lowest part of some calls, and the notes of one of them, by the levels in their order.
-use Rattle.std.proofs.Common.{◌≡◌, ℕ, zero, suc, ◌+◌, ◌<◌, Bool, true, false, ◌==◌, if◌then◌else◌, List, [], ◌∷◌, ◌++◌, length, Option, Some, None, refl, ap, sym, ◌∙◌, slice_get, arith}
+-- The lowest list of some calls, and the notes of one of them, by the levels in their order.
+use Rattle.std.proofs.Common.{◌≡◌, ◌≢◌, ℕ, zero, suc, ◌-◌, ◌≤◌, Bool, true, false, ◌==◌, if◌then◌else◌, List, [], ◌∷◌, ◌++◌, length, Option, Some, None, refl, ap, sym, ◌∙◌, slice_get, arith}
 use Rattle.std.proofs.lemmas.Bool.Decides.{nat_tests}
-use Rattle.undo_log.specs.declared.note.Note.{Note}
 use Rattle.run_history.specs.declared.entry.Entry.{Entry}
-use Rattle.open_calls.specs.declared.part.Part.{Part}
+use Rattle.run_history.specs.HistoryView.{HistoryView}
 use Rattle.open_calls.specs.declared.outer.Outer.{Outer}
 use Rattle.open_calls.specs.Nest.{lowest, lowest_from, notes_from, notes_in}
 use Rattle.open_calls.specs.Rooms.{levels, nest_of, turned}
 use Rattle.open_calls.proofs.Filling.{length-levels, length-turned, turned-push}
 
--- the lowest part
+-- the lowest list
 
-abbrev pub lowest_by : Part → Option Outer → List Entry
-lowest_by top None = top.entries.entries
-lowest_by top (Some o) = o.part.entries.entries
+abbrev pub lowest_by : HistoryView → Option Outer → List Entry
+lowest_by top None = top.entries
+lowest_by top (Some o) = o.entries.entries
 
-lowest_last : (os : List Outer) (o : Outer) (es : List Entry) → lowest_from (levels (os ++ o ∷ [])) es ≡ o.part.entries.entries
+lowest_last : (os : List Outer) (o : Outer) (es : List Entry) → lowest_from (levels (os ++ o ∷ [])) es ≡ o.entries.entries
 lowest_last [] o es = refl
-lowest_last (p ∷ os) o es = lowest_last os o p.part.entries.entries
+lowest_last (p ∷ os) o es = lowest_last os o p.entries.entries
 
-pub lowest_first : (top : Part) (os : List Outer) → lowest (nest_of top os) ≡ lowest_by top (slice_get os 0)
+pub lowest_first : (top : HistoryView) (os : List Outer) → lowest (nest_of top os) ≡ lowest_by top (slice_get os 0)
 lowest_first top [] = refl
-lowest_first top (o ∷ os) = lowest_last (turned os) o top.entries.entries
+lowest_first top (o ∷ os) = lowest_last (turned os) o top.entries
 
 -- the notes of a call
 
@@ -29,57 +28,65 @@ turned-turned : (os : List Outer) → turned (turned os) ≡ os
 turned-turned [] = refl
 turned-turned (o ∷ os) = turned-push (turned os) o ∙ ap (λ ps. o ∷ ps) (turned-turned os)
 
-get_front : (xs : List Outer) (x : Outer) (k : ℕ) → k < length xs → slice_get (xs ++ x ∷ []) k ≡ slice_get xs k
-get_front [] x k less = absurd (omega (arith, less))
-get_front (y ∷ ys) x zero less = refl
-get_front (y ∷ ys) x (suc k) less = get_front ys x k (omega (arith, less))
+-- they end at the mark of the next call
+abbrev pub end_by : Option Outer → ℕ → ℕ
+end_by None all = all
+end_by (Some p) all = p.mark
 
-get_last : (xs : List Outer) (x : Outer) (k : ℕ) → k ≡ length xs → slice_get (xs ++ x ∷ []) k ≡ Some x
-get_last [] x zero is = refl
-get_last [] x (suc k) is = absurd (omega (arith, is))
-get_last (y ∷ ys) x zero is = absurd (omega (arith, is))
-get_last (y ∷ ys) x (suc k) is = get_last ys x k (omega (arith, is))
+end_push : (xs : List Outer) (x : Outer) (k all : ℕ) → k ≤ length xs → end_by (slice_get (xs ++ x ∷ []) k) all ≡ end_by (slice_get xs k) x.mark
+end_push [] x zero all within = refl
+end_push [] x (suc k) all within = absurd (omega (arith, within))
+end_push (y ∷ ys) x zero all within = refl
+end_push (y ∷ ys) x (suc k) all within = end_push ys x k all (omega (arith, within))
 
--- those of the innermost
-pub notes_innermost : (top : Part) (os : List Outer) (frame : ℕ) → frame + 1 ≡ length os → notes_in frame (nest_of top os) ≡ top.log.notes
-notes_innermost top os frame is = by (turned os) (is ∙ sym (length-turned os))
+end_past : (xs : List Outer) (x : Outer) (k all : ℕ) → k ≡ length xs → end_by (slice_get (xs ++ x ∷ []) (suc k)) all ≡ all
+end_past [] x zero all is = refl
+end_past [] x (suc k) all is = absurd (omega (arith, is))
+end_past (y ∷ ys) x zero all is = absurd (omega (arith, is))
+end_past (y ∷ ys) x (suc k) all is = end_past ys x k all (omega (arith, is))
+
+-- with no next call they are all
+pub end_none : (os : List Outer) (k all : ℕ) → length os ≤ k → end_by (slice_get os k) all ≡ all
+end_none [] k all past = refl
+end_none (o ∷ os) zero all past = absurd (omega (arith, past))
+end_none (o ∷ os) (suc k) all past = end_none os k all (omega (arith, past))
+
+got_last : (xs : List Outer) (x o : Outer) (k : ℕ) → k ≡ length xs → slice_get (xs ++ x ∷ []) k ≡ Some o → x ≡ o
+got_last [] x o zero is got = cc
+got_last [] x o (suc k) is got = absurd (omega (arith, is))
+got_last (y ∷ ys) x o zero is got = absurd (omega (arith, is))
+got_last (y ∷ ys) x o (suc k) is got = got_last ys x o k (omega (arith, is)) got
+
+got_front : (xs : List Outer) (x o : Outer) (k : ℕ) → k ≢ length xs → slice_get (xs ++ x ∷ []) k ≡ Some o → (k ≤ length xs) × (slice_get xs k ≡ Some o)
+got_front [] x o zero other got = absurd (other refl)
+got_front [] x o (suc k) other got = cc
+got_front (y ∷ ys) x o zero other got = (omega arith, got)
+got_front (y ∷ ys) x o (suc k) other got =
+    let front = got_front ys x o k (λ e. other (ap suc e)) got in
+    let few = front.0 in
+    (omega (arith, few), front.1)
+
+pub notes_at : (top : HistoryView) (os : List Outer) (frame all : ℕ) (o : Outer) → slice_get os frame ≡ Some o
+    → notes_in frame all (nest_of top os) ≡ end_by (slice_get os (suc frame)) all - o.mark
+notes_at top os frame all o is =
+    by (turned os) all (ap (λ ps. slice_get ps frame) (turned-turned os) ∙ is)
+    ∙ ap (λ ps. end_by (slice_get ps (suc frame)) all - o.mark) (turned-turned os)
   where
-    by : (ts : List Outer) → frame + 1 ≡ length ts → notes_from frame (levels ts) top.log.notes ≡ top.log.notes
-    by [] is = absurd (omega (arith, is))
-    by (t ∷ ts) is =
-        let l = length-levels ts in
-        let same : (frame == length (levels ts)) ≡ true = grind (arith, nat_tests, is, l) in
-        ap (λ (b : Bool). if b then top.log.notes else notes_from frame (levels ts) t.part.log.notes) same
-
--- and of another
-pub notes_outer : (top : Part) (os : List Outer) (frame : ℕ) (o : Outer) → frame + 1 < length os → slice_get os (frame + 1) ≡ Some o → notes_in frame (nest_of top os) ≡ o.part.log.notes
-notes_outer top os frame o less is =
-    let l = length-turned os in
-    by (turned os) top.log.notes (omega (arith, less, l)) (ap (λ ps. slice_get ps (frame + 1)) (turned-turned os) ∙ is)
-  where
-    some : (x y : Outer) → Some x ≡ Some y → x ≡ y
-    some x y e = cc
-
-    by : (ts : List Outer) (ns : List Note) → frame + 1 < length ts → slice_get (turned ts) (frame + 1) ≡ Some o → notes_from frame (levels ts) ns ≡ o.part.log.notes
-    by [] ns less is = absurd (omega (arith, less))
-    by (t ∷ []) ns less is = absurd (omega (arith, less))
-    by (t ∷ (u ∷ us)) ns less is =
-        let l = length-levels (u ∷ us) in
-        let other : (frame == length (levels (u ∷ us))) ≡ false = grind (arith, nat_tests, less, l) in
-        ap (λ (b : Bool). if b then ns else notes_from frame (levels (u ∷ us)) t.part.log.notes) other
-        ∙ next (by (u ∷ us) t.part.log.notes) (frame == length (levels us)) refl
+    by : (ts : List Outer) (all : ℕ) → slice_get (turned ts) frame ≡ Some o → notes_from frame (levels ts) all ≡ end_by (slice_get (turned ts) (suc frame)) all - o.mark
+    by [] all is = cc
+    by (t ∷ ts) all is = at (frame == length (levels ts)) refl (by ts t.mark)
       where
-        m : length (turned (u ∷ us)) ≡ length (u ∷ us)
-        m = length-turned (u ∷ us)
+        l : length (levels ts) ≡ length (turned ts)
+        l = length-levels ts ∙ sym (length-turned ts)
 
-        next : (frame + 1 < length (u ∷ us) → slice_get (turned (u ∷ us)) (frame + 1) ≡ Some o → notes_from frame (levels (u ∷ us)) t.part.log.notes ≡ o.part.log.notes)
-            → (b : Bool) → (frame == length (levels us)) ≡ b → (if b then t.part.log.notes else notes_from frame (levels us) u.part.log.notes) ≡ o.part.log.notes
-        next further true e =
-            let k = length-levels us in
-            let at : frame + 1 ≡ length (turned (u ∷ us)) = let same : frame ≡ length (levels us) = grind (arith, nat_tests, e) in omega (arith, same, k, m) in
-            ap (λ (x : Outer). x.part.log.notes) (some t o (sym (get_last (turned (u ∷ us)) t (frame + 1) at) ∙ is))
-        next further false e =
-            let k = length-levels us in
-            let apart : frame + 1 < length (u ∷ us) = grind (arith, nat_tests, e, less, k) in
-            ap (λ (b : Bool). if b then t.part.log.notes else notes_from frame (levels us) u.part.log.notes) (sym e)
-            ∙ further apart (sym (get_front (turned (u ∷ us)) t (frame + 1) (omega (arith, apart, m))) ∙ is)
+        at : (b : Bool) → (frame == length (levels ts)) ≡ b → (slice_get (turned ts) frame ≡ Some o → notes_from frame (levels ts) t.mark ≡ end_by (slice_get (turned ts) (suc frame)) t.mark - o.mark)
+            → (if b then all - t.mark else notes_from frame (levels ts) t.mark) ≡ end_by (slice_get (turned ts ++ t ∷ []) (suc frame)) all - o.mark
+        at true e further =
+            let last : frame ≡ length (turned ts) = let same : frame ≡ length (levels ts) = grind (arith, nat_tests, e) in same ∙ l in
+            λ i. sym (end_past (turned ts) t frame all last) i - (got_last (turned ts) t o frame last is i).mark
+        at false e further =
+            let other : frame ≢ length (turned ts) = λ same. let same_levels : (frame == length (levels ts)) ≡ true = grind (arith, nat_tests, same, l) in cc in
+            let front = got_front (turned ts) t o frame other is in
+            let few = front.0 in
+            let within : suc frame ≤ length (turned ts) = grind (arith, few, other) in
+            further front.1 ∙ ap (λ end. end - o.mark) (sym (end_push (turned ts) t (suc frame) all within))

@@ -1,6 +1,6 @@
 -- A call that is taken back: what was kept and its notes give the state in which it was entered, and
 -- one entry may stand for all that it did.
-use Rattle.std.proofs.Common.{◌≡◌, ◌≢◌, ℕ, zero, suc, ◌+◌, ◌-◌, true, false, List, [], ◌∷◌, ◌++◌, length, map, take, Option, Some, None, refl, ap, sym, ◌∙◌, slice_get, arith}
+use Rattle.std.proofs.Common.{◌≡◌, ◌≢◌, ℕ, zero, suc, ◌+◌, ◌-◌, true, false, List, [], ◌∷◌, ◌++◌, drop, length, map, take, Option, Some, None, refl, ap, sym, ◌∙◌, slice_get, arith}
 use Rattle.std.proofs.lemmas.List.{length-map}
 use Rattle.guest_words.specs.declared.fault.Fault.{Fault as FaultAt}
 use Rattle.guest_words.specs.declared.hart.Frame.{Frame}
@@ -125,28 +125,28 @@ rescued_alike x y h p f t a codes = λ i. record {
 pub record IsTaken (Back : Fact) (start : State) (h : ℕ) (o : Level) (os : List Level) (es : List Entry) (ns : List Note) (fault : FaultAt) (t : State) (n : AddressSpace) : Type 0 where
   pub b : State
   pub m : AddressSpace
-  pub outer : Stacked Back start h os o.entries o.notes b m
+  pub outer : Stacked Back start h os o.entries (take o.mark ns) b m
   pub may : may_act b h ≡ true
   pub level : frames_at b h ≡ length os
   pub keeps : Keeps o.kept b
-  pub undoes : undone put_back ns n ≡ m
+  pub undoes : undone put_back (drop o.mark ns) n ≡ m
   pub space : IsSpaceOf m b
   pub back : Back o.kept m b.steps
   pub count : length o.kept.harts ≡ length t.slots
   -- what was kept and the notes give that state, but for what a rescue leaves as it is
-  pub brought : rescued_from (brought_back t h o.kept (undone put_back ns n)) h o.point fault t ≡ rescued_from b h o.point fault t
+  pub brought : rescued_from (brought_back t h o.kept (undone put_back (drop o.mark ns) n)) h o.point fault t ≡ rescued_from b h o.point fault t
   pub legal : legal b (entry.Rescued h o.point fault es) ≡ true
   pub after : after b (entry.Rescued h o.point fault es) ≡ rescued_from b h o.point fault t
 
 module _ (Back : Fact) (start : State) (h : ℕ) (o : Level) (os : List Level) (es : List Entry) (ns : List Note) (fault : FaultAt) (t : State) (n : AddressSpace) where
   brings_back : (b : State) (m : AddressSpace) → IsOpen Back h b m o (length os) es ns t n → frames_at t h ≡ frames_at b h + 1 → is_alone t h ≡ true
-      → rescued_from (brought_back t h o.kept (undone put_back ns n)) h o.point fault t ≡ rescued_from b h o.point fault t
+      → rescued_from (brought_back t h o.kept (undone put_back (drop o.mark ns) n)) h o.point fault t ≡ rescued_from b h o.point fault t
   brings_back b m is one alone =
       let e = enter b h o.point in
       let to = state_after e es in
       let goes = ap (λ d. legal_inside e h d es) is.depth_is ∙ is.goes in
       let stays = stays_both b e to (entered_stays b h o.point) (state_after_stays e es) in
-      rescued_alike (brought_back t h o.kept (undone put_back ns n)) b h o.point fault t (record {
+      rescued_alike (brought_back t h o.kept (undone put_back (drop o.mark ns) n)) b h o.point fault t (record {
         memory = ap (λ (k : AddressSpace). k.space) is.undoes ∙ is.space.space;
         low = ap (λ (s : State). s.low) (sym is.reaches) ∙ stays.low;
         brk = ap (λ (k : AddressSpace). k.brk) is.undoes ∙ is.space.brk;
@@ -193,4 +193,4 @@ flat_open h o os es = flat_push h os o.entries (Entered h o.point ∷ es)
 pub legal_erased : (Back : Fact) (start : State) (h : ℕ) (o : Level) (os : List Level) (es : List Entry) (ns : List Note) (fault : FaultAt) (t : State) (n : AddressSpace)
     → IsTaken Back start h o os es ns fault t n → legal (state_after start (flat_from h os o.entries)) (entry.Rescued h o.point fault es) ≡ true
 legal_erased Back start h o os es ns fault t n is =
-    ap (λ s. legal s (entry.Rescued h o.point fault es)) (flat_run Back start h os o.entries o.notes is.b is.m is.outer).1 ∙ is.legal
+    ap (λ s. legal s (entry.Rescued h o.point fault es)) (flat_run Back start h os o.entries (take o.mark ns) is.b is.m is.outer).1 ∙ is.legal

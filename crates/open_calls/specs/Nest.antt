@@ -1,15 +1,14 @@
 -- Calls open within calls: what contracts see of them, and how they change.
-use Rattle.std.specs.Prelude.{ℕ, ◌==◌, nat_lt, if◌then◌else◌, List, [], ◌∷◌, ◌++◌, length}
+use Rattle.std.specs.Prelude.{ℕ, ◌-◌, ◌==◌, nat_lt, if◌then◌else◌, List, [], ◌∷◌, ◌++◌, length}
 use Rattle.guest_words.specs.declared.point.PointRef.{PointRef}
 use Rattle.checkpoints.specs.declared.checkpoint.Checkpoint.{Checkpoint}
-use Rattle.undo_log.specs.declared.note.Note.{Note}
 use Rattle.run_history.specs.declared.entry.Entry.{Entry, Entered}
 
--- what encloses an open call: the entries and notes before it, its point, what was kept at its
--- entering
+-- what encloses an open call: the entries before it, how many notes the machine's log had at its
+-- entering, its point, what was kept then
 pub record Level : Type 0 where
   pub entries : List Entry
-  pub notes : List Note
+  pub mark : ℕ
   pub point : PointRef
   pub kept : Checkpoint
 
@@ -18,29 +17,26 @@ pub record Level : Type 0 where
 pub record Nest : Type 0 where
   pub outers : List Level
   pub entries : List Entry
-  pub notes : List Note
 
--- what contracts see of the calls that a hart has open: how many entries and notes more have room
--- too
+-- what contracts see of the calls that a hart has open: how many entries more have room too
 pub record Stack : Type 0 where
   pub hart : ℕ
   pub nest : Nest
   pub acts : ℕ
-  pub notes : ℕ
 
 -- the entries of an open call behind those of what encloses it
 abbrev pub joined : ℕ → Level → List Entry → List Entry
 joined h o es = o.entries ++ Entered h o.point ∷ es
 
-abbrev pub closing : ℕ → ℕ → List Level → List Entry → List Note → Nest
-closing h keep [] es ns = record { outers = []; entries = es; notes = ns }
-closing h keep (o ∷ os) es ns =
-    if nat_lt (length os) keep then record { outers = o ∷ os; entries = es; notes = ns }
-    else closing h keep os (joined h o es) (o.notes ++ ns)
+abbrev pub closing : ℕ → ℕ → List Level → List Entry → Nest
+closing h keep [] es = record { outers = []; entries = es }
+closing h keep (o ∷ os) es =
+    if nat_lt (length os) keep then record { outers = o ∷ os; entries = es }
+    else closing h keep os (joined h o es)
 
 -- calls close, the innermost first, until so many are open
 abbrev pub closed_to : ℕ → ℕ → Nest → Nest
-closed_to h keep n = closing h keep n.outers n.entries n.notes
+closed_to h keep n = closing h keep n.outers n.entries
 
 abbrev pub flat_from : ℕ → List Level → List Entry → List Entry
 flat_from h [] es = es
@@ -58,30 +54,37 @@ lowest_from (o ∷ os) es = lowest_from os o.entries
 abbrev pub lowest : Nest → List Entry
 lowest n = lowest_from n.outers n.entries
 
-abbrev pub notes_from : ℕ → List Level → List Note → List Note
-notes_from frame [] ns = ns
-notes_from frame (o ∷ os) ns =
-    if frame == length os then ns else notes_from frame os o.notes
+abbrev pub notes_from : ℕ → List Level → ℕ → ℕ
+notes_from frame [] all = 0
+notes_from frame (o ∷ os) all =
+    if frame == length os then all - o.mark else notes_from frame os o.mark
 
--- the notes of a call that so many enclose, up to the entering of the next
-abbrev pub notes_in : ℕ → Nest → List Note
-notes_in frame n = notes_from frame n.outers n.notes
+-- how many of so many notes a call has that so many enclose, up to the entering of the next
+abbrev pub notes_in : ℕ → ℕ → Nest → ℕ
+notes_in frame all n = notes_from frame n.outers all
+
+abbrev pub newest_mark : List Level → ℕ
+newest_mark [] = 0
+newest_mark (o ∷ os) = o.mark
+
+-- how many notes the log had at the entering of the innermost call, or 0 where none is open
+abbrev pub mark_in : Nest → ℕ
+mark_in n = newest_mark n.outers
 
 -- what has been so far, as what encloses a further call
-abbrev pub enclosing : PointRef → Checkpoint → Nest → Level
-enclosing point kept n =
-    record { entries = n.entries; notes = n.notes; point = point; kept = kept }
+abbrev pub enclosing : PointRef → Checkpoint → ℕ → Nest → Level
+enclosing point kept mark n =
+    record { entries = n.entries; mark = mark; point = point; kept = kept }
 
--- a call of a point opens
-abbrev pub opened : PointRef → Checkpoint → Nest → Nest
-opened point kept n =
-    record { outers = enclosing point kept n ∷ n.outers; entries = []; notes = [] }
+-- a call of a point opens, where the log has so many notes
+abbrev pub opened : PointRef → Checkpoint → ℕ → Nest → Nest
+opened point kept mark n =
+    record { outers = enclosing point kept mark n ∷ n.outers; entries = [] }
 
-abbrev pub closed_first : ℕ → List Level → List Entry → List Note → Nest
-closed_first h [] es ns = record { outers = []; entries = es; notes = ns }
-closed_first h (o ∷ os) es ns =
-    record { outers = os; entries = joined h o es; notes = o.notes ++ ns }
+abbrev pub closed_first : ℕ → List Level → List Entry → Nest
+closed_first h [] es = record { outers = []; entries = es }
+closed_first h (o ∷ os) es = record { outers = os; entries = joined h o es }
 
 -- the innermost call closes
 abbrev pub closed_one : ℕ → Nest → Nest
-closed_one h n = closed_first h n.outers n.entries n.notes
+closed_one h n = closed_first h n.outers n.entries

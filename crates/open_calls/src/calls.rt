@@ -1,13 +1,13 @@
 ghost use Rattle.std.specs.Prelude.{◌≡◌, ◌+◌, ◌<◌, ◌≤◌, ◌++◌, [], ◌∷◌, length, OnOk, IfOk};
 ghost use Rattle.guest_words.specs.declared.limits.TheConstants.{FRAMES};
 ghost use Rattle.run_history.specs.LastEntry.{with_acts};
-ghost use Rattle.open_calls.specs.Nest.{closed_one, closed_to, flat, lowest, notes_in, opened};
+ghost use Rattle.open_calls.specs.Nest.{closed_one, closed_to, flat, lowest, mark_in, notes_in, opened};
 ghost use Rattle.open_calls.specs.Rooms.{IsFresh};
-ghost use Rattle.open_calls.specs.declared.part.TheConstants.{ENTRIES};
+ghost use Rattle.open_calls.specs.declared.list.TheConstants.{ENTRIES};
 
+use crate::list;
 use crate::outer::Outer;
-use crate::part::{ENTRIES, NOTES, Part};
-use crate::room::{Room, refill};
+use crate::room::{make_in, refill};
 use crate::taken::Taken;
 use checkpoints::Checkpoint;
 use guest_words::{MemoryWant, PointRef, limits};
@@ -15,27 +15,20 @@ use run_history::{Entry, History};
 use std::alloc::Global;
 use std::marker::Model;
 use std::mem::replace;
-use undo_log::Log;
 
 /// A refill makes room for at most so many entries.
 const MOST_ENTRIES: usize = 64;
 
-/// And for at most so many notes that aren't asked for.
-const MOST_NOTES: u64 = 65_536;
-
 /// The calls that a hart has open, and the history: what has been since the innermost call was
-/// entered, and what was before each.
+/// entered, and what was before each. What was overwritten is in the machine's log.
 #[derive(Drop)]
 pub struct Calls {
     hart: u8,
-    top: Part,
+    top: History,
     /// The outermost first; room for as many as a hart can have open.
     outers: Vec<Outer>,
-    /// So many entries and notes more have room, whatever closes.
+    /// So many entries more have room, whatever closes.
     acts: usize,
-    notes: u64,
-    /// Logs of calls that have closed, whose room serves those to come.
-    left: Vec<Log>,
 }
 
 impl Model for Calls {
@@ -53,10 +46,9 @@ impl Model for Calls {
       hart = c.hart;
       nest = nest_of c.top c.outers.items;
       acts = c.acts;
-      notes = c.notes;
     } };
 
-    ghost invariant = { λ c. Rooms c.acts c.notes c.top (turned c.outers.items)
+    ghost invariant = { λ c. Rooms c.acts c.top (turned c.outers.items)
         × HasPlaces c.outers };
 }
 
@@ -64,19 +56,16 @@ impl Calls {
     /// No call, and no history.
     pub fn none(alloc: Global, hart: u8) -> Result<Calls, MemoryWant>
         ensures nest { IfOk result (λ calls.
-            calls.nest ≡ record { outers = []; entries = []; notes = [] }) }
+            calls.nest ≡ record { outers = []; entries = [] }) }
         ensures hart { IfOk result (λ calls. calls.hart ≡ hart) }
     {
-        let top = Part::fresh(alloc)?;
+        let top = list::fresh(alloc)?;
         let outers = Vec::with_capacity(alloc, limits::FRAMES)?;
-        let left = Vec::with_capacity(alloc, limits::FRAMES)?;
         Ok(Calls {
             hart,
             top,
             outers,
             acts: 0,
-            notes: 0,
-            left,
         })
     }
 
@@ -105,7 +94,7 @@ impl Calls {
     pub fn history(&self) -> &History
         ensures entries { result.now.entries ≡ self.now.nest.entries }
     {
-        &self.top.entries
+        &self.top
     }
 
     /// The number of entries before the outermost call; with none open, of the whole history.
@@ -113,111 +102,90 @@ impl Calls {
         ensures value { result ≡ length (lowest self.now.nest) }
     {
         match self.outers.first() {
-            Some(outer) => outer.part.entries.items().len() as u64,
-            None => self.top.entries.items().len() as u64,
+            Some(outer) => outer.entries.items().len() as u64,
+            None => self.top.items().len() as u64,
         }
     }
 
-    /// The notes of a call, the outermost being 0, up to the entering of the next.
-    pub fn log(&self, frame: usize) -> &Log
+    /// How many of so many notes in the machine's log a call has, the outermost being 0, up to the
+    /// entering of the next.
+    pub fn notes(&self, frame: usize, all: u64) -> u64
         requires open { frame < length self.now.nest.outers }
-        ensures notes { result.now.notes ≡ notes_in frame self.now.nest }
+        ensures value { result ≡ notes_in frame all self.now.nest }
     {
-        let depth = self.depth();
-        if frame + 1 == depth {
-            return &self.top.log;
-        }
+        let Some(outer) = self.outers.get(frame) else {
+            unreachable!();
+        };
         match self.outers.get(frame + 1) {
-            Some(outer) => &outer.part.log,
-            None => unreachable!(),
+            Some(next) => next.mark.saturating_sub(outer.mark),
+            None => all.saturating_sub(outer.mark),
         }
     }
 
-    /// How many notes more have room.
-    pub fn notes(&self) -> u64
-        ensures value { result ≡ self.now.notes }
+    /// How many notes the machine's log had at the entering of the innermost call; 0 with none open.
+    pub fn mark(&self) -> u64
+        ensures value { result ≡ mark_in self.now.nest }
     {
-        self.notes
+        match self.outers.last() {
+            Some(outer) => outer.mark,
+            None => 0,
+        }
     }
 
-    /// Makes room for an entry, with so many notes.
-    pub fn make_room(&mut self, notes: u64) -> Result<(), MemoryWant>
+    /// Makes room for an entry.
+    pub fn make_room(&mut self) -> Result<(), MemoryWant>
         ensures nest { self.new.nest ≡ self.old.nest }
         ensures hart { self.new.hart ≡ self.old.hart }
         ensures acts { OnOk result (0 < self.new.acts) }
-        ensures notes { OnOk result (notes ≤ self.new.notes) }
     {
-        if self.acts > 0 && notes <= self.notes {
+        if self.acts > 0 {
             return Ok(());
         }
-        let room = self.room_ahead(notes);
-        self.refill(room)
-    }
-
-    // Room for as much again as there is, so that a long call is seldom refilled; of what isn't
-    // wanting as much as there is room for.
-    fn room_ahead(&self, notes: u64) -> Room
-        ensures entries { 0 < result.entries }
-        ensures notes { notes ≤ result.notes }
-    {
-        let entries = self.top.entries.items().len().min(MOST_ENTRIES);
-        let noted = self.top.log.length().min(MOST_NOTES);
-        Room {
-            entries: if self.acts > 0 {
-                self.acts
-            } else {
-                entries.max(ENTRIES)
-            },
-            notes: if notes <= self.notes {
-                self.notes
-            } else {
-                noted.max(NOTES).max(notes)
-            },
-        }
+        // As much again as there is, so that a long call is seldom refilled.
+        let entries = self.top.items().len().min(MOST_ENTRIES);
+        self.refill(entries.max(list::ENTRIES))
     }
 
     // Apart, so that the test for room is all that most steps pay.
     #[inline(never)]
-    fn refill(&mut self, room: Room) -> Result<(), MemoryWant>
+    fn refill(&mut self, entries: usize) -> Result<(), MemoryWant>
         ensures nest { self.new.nest ≡ self.old.nest }
         ensures hart { self.new.hart ≡ self.old.hart }
-        ensures acts { OnOk result (self.new.acts ≡ room.entries) }
-        ensures notes { OnOk result (self.new.notes ≡ room.notes) }
+        ensures acts { OnOk result (self.new.acts ≡ entries) }
     {
-        let around = room.make_in(&mut self.top)?;
+        let around = make_in(&mut self.top, entries)?;
         refill(self.outers.as_mut_slice(), around)?;
-        self.acts = room.entries;
-        self.notes = room.notes;
+        self.acts = entries;
         Ok(())
     }
 
-    /// A part for a further call.
-    pub fn next_part(&mut self, alloc: Global) -> Result<Part, MemoryWant>
-        ensures same { self.new ≡ self.old }
-        ensures fresh { IfOk result (λ part. IsFresh part) }
+    /// A list for the entries of a further call.
+    pub fn next_list(alloc: Global) -> Result<History, MemoryWant>
+        ensures fresh { IfOk result (λ list. IsFresh list) }
     {
-        match self.left.pop() {
-            Some(log) => Part::over(alloc, log),
-            None => Part::fresh(alloc),
-        }
+        list::fresh(alloc)
     }
 
-    /// A call of a point opens.
+    /// A call of a point opens, where the machine's log has so many notes.
     #[inline(always)]
-    pub fn open(&mut self, point: PointRef, kept: Checkpoint, part: Part)
+    pub fn open(&mut self, point: PointRef, kept: Checkpoint, mark: u64, list: History)
         requires acts { 0 < self.old.acts }
         requires few { length self.old.nest.outers < FRAMES }
-        requires fresh { IsFresh part }
-        ensures nest { self.new.nest ≡ opened point kept self.old.nest }
+        requires fresh { IsFresh list }
+        ensures nest { self.new.nest ≡ opened point kept mark self.old.nest }
         ensures hart { self.new.hart ≡ self.old.hart }
     {
-        let part = replace(&mut self.top, part);
-        self.outers.push_reserved(Outer { part, point, kept });
+        let entries = replace(&mut self.top, list);
+        self.outers.push_reserved(Outer {
+            entries,
+            mark,
+            point,
+            kept,
+        });
         self.acts = one_less(self.acts);
-        self.notes = self.notes.min(NOTES);
     }
 
-    /// The innermost call closes: its part goes behind what encloses it.
+    /// The innermost call closes: its entries go behind those of what encloses it.
     fn close(&mut self)
         requires open { 0 < length self.old.nest.outers }
         ensures same { self.new ≡ record self.old {
@@ -226,21 +194,11 @@ impl Calls {
     {
         match self.outers.pop() {
             Some(outer) => {
-                let Outer { part, point, .. } = outer;
-                let inner = replace(&mut self.top, part);
-                let log = self.top.join(inner, self.hart, point);
-                self.leave(log);
+                let Outer { entries, point, .. } = outer;
+                let inner = replace(&mut self.top, entries);
+                list::join(&mut self.top, inner, self.hart, point);
             }
             None => {}
-        }
-    }
-
-    // Keeps a log for a call to come, if there is a place for it.
-    fn leave(&mut self, log: Log)
-        ensures same { self.new ≡ self.old }
-    {
-        if self.left.len() < self.left.capacity() {
-            self.left.push_reserved(log);
         }
     }
 
@@ -255,56 +213,31 @@ impl Calls {
         }
     }
 
-    /// So many ordinary acts of the hart in a row go behind the entries, with the notes of what
-    /// they overwrote. Takes no memory.
-    pub fn put_run(&mut self, count: u32, log: &mut Log)
+    /// So many ordinary acts of the hart in a row go behind the entries. Takes no memory.
+    pub fn put_run(&mut self, count: u32)
         requires acts { 0 < self.old.acts }
         requires some { 1 ≤ count }
-        requires notes { length log.old.notes ≤ self.old.notes }
         ensures nest { self.new.nest ≡ record self.old.nest {
           entries = with_acts self.old.hart count self.old.nest.entries;
-          notes = self.old.nest.notes ++ log.old.notes;
         } }
         ensures hart { self.new.hart ≡ self.old.hart }
-        ensures none { log.new.notes ≡ [] }
-        ensures kept { log.old.spare + length log.old.notes ≤ log.new.spare }
         ensures acts { self.old.acts ≤ self.new.acts + 1 }
-        ensures left { self.old.notes ≤ self.new.notes + length log.old.notes }
     {
         self.acts -= 1;
-        self.notes -= log.length();
-        self.top.entries.put_acts(self.hart, count);
-        log.move_onto(&mut self.top.log);
+        self.top.put_acts(self.hart, count);
     }
 
-    /// An entry goes behind the entries, with the notes of what it overwrote. Takes no memory.
-    pub fn append(&mut self, entry: Entry, log: &mut Log)
+    /// An entry goes behind the entries. Takes no memory.
+    pub fn append(&mut self, entry: Entry)
         requires acts { 0 < self.old.acts }
-        requires notes { length log.old.notes ≤ self.old.notes }
         ensures nest { self.new.nest ≡ record self.old.nest {
           entries = self.old.nest.entries ++ entry ∷ [];
-          notes = self.old.nest.notes ++ log.old.notes;
         } }
         ensures hart { self.new.hart ≡ self.old.hart }
-        ensures none { log.new.notes ≡ [] }
-        ensures kept { log.old.spare + length log.old.notes ≤ log.new.spare }
         ensures acts { self.old.acts ≤ self.new.acts + 1 }
-        ensures left { self.old.notes ≤ self.new.notes + length log.old.notes }
     {
         self.acts -= 1;
-        self.notes -= log.length();
-        self.top.entries.push(entry);
-        log.move_onto(&mut self.top.log);
-    }
-
-    /// Forgets the notes, where no call is open that could be taken back by them. Takes no memory.
-    pub fn forget_notes(&mut self)
-        requires none { self.old.nest.outers ≡ [] }
-        ensures same { self.new ≡ record self.old {
-          nest = record self.old.nest { notes = [] };
-        } }
-    {
-        self.top.log.clear();
+        self.top.push(entry);
     }
 
     /// The innermost call goes, and what encloses it has room for an entry. Takes no memory.
@@ -313,12 +246,11 @@ impl Calls {
         ensures was { self.old.nest ≡ record {
           outers = record {
             entries = self.new.nest.entries;
-            notes = self.new.nest.notes;
+            mark = result.mark;
             point = result.point;
             kept = result.kept;
           } ∷ self.new.nest.outers;
           entries = result.inside.entries;
-          notes = result.log.notes;
         } }
         ensures hart { self.new.hart ≡ self.old.hart }
         ensures acts { 0 < self.new.acts }
@@ -326,13 +258,17 @@ impl Calls {
         let Some(outer) = self.outers.pop() else {
             unreachable!();
         };
-        let Outer { part, point, kept } = outer;
-        let inner = replace(&mut self.top, part);
-        self.acts = with_those_of_call(self.acts, inner.entries.items().len());
-        self.notes = self.notes.saturating_add(inner.log.length());
+        let Outer {
+            entries,
+            mark,
+            point,
+            kept,
+        } = outer;
+        let inside = replace(&mut self.top, entries);
+        self.acts = with_those_of_call(self.acts, inside.items().len());
         Taken {
-            inside: inner.entries,
-            log: inner.log,
+            inside,
+            mark,
             point,
             kept,
         }
@@ -352,7 +288,7 @@ impl Calls {
         ensures entries { result.entries ≡ self.nest.entries }
         ensures room { 0 < result.spare }
     {
-        self.top.entries
+        self.top
     }
 }
 
@@ -363,7 +299,7 @@ fn one_less(acts: usize) -> usize
     ensures less { result + 1 ≤ acts }
     ensures few { result ≤ ENTRIES }
 {
-    (acts - 1).min(ENTRIES)
+    (acts - 1).min(list::ENTRIES)
 }
 
 // Where the call is taken back, what encloses it has the room again that the call used, and that of

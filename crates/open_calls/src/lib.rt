@@ -2,13 +2,12 @@
 #![tactic(auto)]
 
 mod calls;
+mod list;
 mod outer;
-mod part;
 mod room;
 mod taken;
 #[cfg(test)]
 mod tests;
 
 pub use calls::Calls;
-pub use part::Part;
 pub use taken::Taken;

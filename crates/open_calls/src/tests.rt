@@ -1,12 +1,11 @@
-use crate::{Calls, Part};
+use crate::Calls;
 use checkpoints::Checkpoint;
 use futex_table::Queue;
 use guest_atomics::Harts;
-use guest_words::{PointRef, Width};
+use guest_words::PointRef;
 use run_history::Entry;
 use std::alloc::Global;
 use std::test::Fail;
-use undo_log::Log;
 
 const OUTER: PointRef = PointRef { entry: 0x10000 };
 
@@ -26,21 +25,18 @@ fn nobody(alloc: Global) -> Checkpoint {
 #[test]
 fn calls_within_calls_close(rt: HostRuntime) -> Result<(), Fail> {
     let mut calls = Calls::none(rt.alloc(), 0)?;
-    let mut log = Log::new(rt.alloc());
-    calls.make_room(0)?;
-    calls.open(OUTER, nobody(rt.alloc()), Part::fresh(rt.alloc())?);
-    log.note_bytes(0x20000, Width::One, 11)?;
-    calls.make_room(log.length())?;
-    calls.put_run(3, &mut log);
-    calls.make_room(0)?;
-    calls.open(INNER, nobody(rt.alloc()), Part::fresh(rt.alloc())?);
-    log.note_bytes(0x20000, Width::One, 22)?;
-    calls.make_room(log.length())?;
-    calls.put_run(2, &mut log);
-    calls.make_room(0)?;
-    calls.put_run(4, &mut log);
+    calls.make_room()?;
+    calls.open(OUTER, nobody(rt.alloc()), 0, Calls::next_list(rt.alloc())?);
+    calls.make_room()?;
+    calls.put_run(3);
+    calls.make_room()?;
+    calls.open(INNER, nobody(rt.alloc()), 2, Calls::next_list(rt.alloc())?);
+    calls.make_room()?;
+    calls.put_run(2);
+    calls.make_room()?;
+    calls.put_run(4);
     assert!(rt; calls.depth() == 2 && calls.length() == 0);
-    assert!(rt; calls.log(0).length() == 1 && calls.log(1).length() == 1);
+    assert!(rt; calls.notes(0, 5) == 2 && calls.notes(1, 5) == 3);
     let history = calls.flatten();
     assert!(rt;
         matches!(

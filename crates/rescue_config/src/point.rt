@@ -9,7 +9,7 @@ use crate::fields::read_fields;
 use crate::point_fault::PointFault;
 use crate::points_fault::PointsFault;
 use crate::version::Version;
-use elf_symbols::Symbols;
+use elf_symbols::Finder;
 use guest_words::{Kind, Point, Span};
 use toml::Table;
 
@@ -95,7 +95,7 @@ fn check_entry(entry: u64, text: &[Span], earlier: &[Point]) -> Result<(), Point
 pub fn read_point(
     version: Version,
     table: &Table,
-    symbols: &Symbols,
+    symbols: &Finder,
     text: &[Span],
     earlier: &[Point],
 ) -> Result<Point, PointsFault>

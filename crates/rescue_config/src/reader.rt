@@ -9,12 +9,13 @@ ghost use Rattle.rescue_config.specs.PointRules.{point_rules, point_of};
 ghost use Rattle.rescue_config.specs.Tells.{Tells};
 
 use crate::document::{check_file, parse};
+use crate::member::member;
 use crate::point::read_point;
 use crate::points_fault::PointsFault;
 use crate::version::Version;
-use elf_symbols::Symbols;
+use elf_symbols::{Finder, Symbols};
 use guest_words::{Point, Points, Span};
-use std::alloc::Global;
+use std::alloc::{AllocError, Global};
 use toml::{Table, Value};
 
 /// The table that the value is.
@@ -30,7 +31,7 @@ fn add_point(
     points: &mut Vec<Point>,
     version: Version,
     value: &Value,
-    symbols: &Symbols,
+    symbols: &Finder,
     text: &[Span],
 ) -> Result<(), PointsFault>
     requires table { IsSome (as_table (view value.now)) }
@@ -54,7 +55,7 @@ fn read_tables(
     alloc: Global,
     version: Version,
     values: &[Value],
-    symbols: &Symbols,
+    symbols: &Finder,
     text: &[Span],
 ) -> Result<Points, PointsFault>
     requires tables { are_tables (items_view values.now) ≡ true }
@@ -69,6 +70,30 @@ fn read_tables(
         add_point(&mut points, version, value, symbols, text)?;
     }
     Ok(Points::of(points))
+}
+
+/// The names of functions in the tables.
+fn names_in<'a>(alloc: Global, values: &'a [Value]) -> Result<Vec<&'a str>, AllocError> {
+    let mut names = Vec::new(alloc);
+    for value in values {
+        let function = value.as_table().and_then(|table| member(table, "function"));
+        if let Some(name) = function.and_then(|function| function.as_str()) {
+            names.push(name)?;
+        }
+    }
+    Ok(names)
+}
+
+/// The symbols, walked over once for the names in the tables.
+fn finder<'a, 'n>(
+    alloc: Global,
+    symbols: &Symbols<'a>,
+    values: &'n [Value],
+) -> Result<Finder<'a, 'n>, AllocError>
+    ensures { IfOk result (λ finder. finder ≡ symbols.now) }
+{
+    let names = names_in(alloc, values)?;
+    Finder::of(alloc, symbols, names.as_slice())
 }
 
 /// The points of a rescue file, in its order, or the first rule that it breaks, with the number of
@@ -108,5 +133,6 @@ pub fn read_points(
 {
     let file = parse(alloc, bytes)?;
     let tables = check_file(&file)?;
-    read_tables(alloc, tables.version, tables.values, symbols, text)
+    let symbols = finder(alloc, symbols, tables.values)?;
+    read_tables(alloc, tables.version, tables.values, &symbols, text)
 }

@@ -9,7 +9,7 @@ use crate::member::member;
 use crate::point_fault::PointFault;
 use crate::points_fault::PointsFault;
 use crate::values::as_address;
-use elf_symbols::{Found, Symbols};
+use elf_symbols::{Finder, Found};
 use toml::Table;
 
 /// What a point goes by.
@@ -42,7 +42,7 @@ pub fn read_target(table: &Table, number: u32) -> Result<Target<'_>, PointsFault
 
 impl Target<'_> {
     /// The entry of the point with this number, which goes by this target.
-    pub fn entry(&self, symbols: &Symbols, number: u32) -> Result<u64, PointsFault>
+    pub fn entry(&self, symbols: &Finder, number: u32) -> Result<u64, PointsFault>
         ensures rules { Tells result
             (first_at_point (name_rules number (named symbols.now (target_function self.now)))) }
         ensures entry { IfOk result (λ entry.

@@ -1,21 +1,15 @@
 use crate::{PointFault, PointsFault, read_points};
-use elf_symbols::{Symbol, Symbols};
-use guest_words::{Kind, Name, Point, Points, Ret, Span};
+use elf_symbols::{SymbolTable, Symbols};
+use guest_words::{Kind, Point, Points, Ret, Span};
 use std::alloc::{AllocError, Global};
 use std::test::Fail;
 
-/// A function named f at the start of the text, one more of this name, and one named handle.
-fn symbols(alloc: Global) -> Result<Symbols, AllocError> {
-    let mut items = Vec::new(alloc);
-    for (value, name) in [(0x10000, "f"), (0x10004, "f"), (0x100b0, "handle")] {
-        items.push(Symbol {
-            value,
-            size: 4,
-            name: Name::of(String::from_str(alloc, name)?),
-        })?;
-    }
-    Ok(Symbols::of(items))
-}
+/// The symbol table of a program: a function named f at the start of the text, one more of this
+/// name, and one named handle.
+const ENTRIES: [u8; 72] = *b"\
+    \0\0\0\0\x02\0\x01\0\0\0\x01\0\0\0\0\0\0\0\0\0\0\0\0\0\
+    \0\0\0\0\x02\0\x01\0\x04\0\x01\0\0\0\0\0\0\0\0\0\0\0\0\0\
+    \x02\0\0\0\x02\0\x01\0\xb0\0\x01\0\0\0\0\0\0\0\0\0\0\0\0\0";
 
 /// What the rescue file says of a program whose one executable load has 256 bytes at 0x10000.
 fn read(alloc: Global, file: &[u8]) -> Result<Result<Points, PointsFault>, AllocError> {
@@ -23,7 +17,14 @@ fn read(alloc: Global, file: &[u8]) -> Result<Result<Points, PointsFault>, Alloc
         from: 0x10000,
         size: 256,
     }];
-    Ok(read_points(alloc, file, &symbols(alloc)?, &text))
+    let entries = ENTRIES;
+    let symbols = Symbols::of(Some(SymbolTable {
+        file: &entries,
+        first: 0,
+        count: 3,
+        strings: b"f\0handle\0",
+    }));
+    Ok(read_points(alloc, file, &symbols, &text))
 }
 
 /// The number of points of a rescue file that keeps the rules.

@@ -8,7 +8,7 @@ use Rattle.run_history.specs.declared.entry.Entry.{Entry, Ran, Entered, Called, 
 use Rattle.run_history.specs.declared.entry.Entry.TheOpen.{Entry-F}
 use Rattle.run_history.specs.declared.entry.Entry.TheViews as v
 use Rattle.run_history.specs.declared.entry.Entry.TheVariants.{outs-Ran, outs-Entered, outs-Called, outs-Rescued', outs-Ended}
-use Rattle.run_history.specs.Counts.{steps_of, steps_of_row, steps_of_all, records_of, records_of_row, records_of_all}
+use Rattle.run_history.specs.Counts.{steps_of_row, steps_of_all, records_of_row, records_of_all}
 use Rattle.run_history.proofs.Insides.{out-Rescued, steps_of_row-is, records_of_row-is}
 use Rattle.rescue_report.specs.Lines.{rescue_line}
 use Rattle.rescue_report.specs.Rescues.{rescues_of, rescues_of_row, rescues_of_all, rescue_lines, rescue_lines_of_row, rescue_lines_of_all, rescued_lines}

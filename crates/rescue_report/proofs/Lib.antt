@@ -1,3 +1,4 @@
 pub mod Digits
 pub mod Insides
 pub mod Orders
+pub mod ListPuts

@@ -5,13 +5,16 @@
 mod counts;
 mod lines;
 mod list;
+mod list_fault;
+mod list_put;
 mod numbers;
 mod report;
 mod summary;
 #[cfg(test)]
 mod tests;
 
-pub use list::list_text;
+pub use list_fault::ListFault;
+pub use list_put::put_list;
 pub use numbers::hexadecimal;
 pub use report::report_text;
 pub use summary::summary_text;

@@ -1,6 +1,7 @@
-use crate::{list_text, report_text};
-use elf_symbols::{Symbol, Symbols};
-use guest_words::{Ending, Fault, FaultName, Kind, MemoryWant, Name, Point, PointRef, Points, Ret};
+use crate::list::{ordered_rows, put_row};
+use crate::report_text;
+use elf_symbols::{SymbolTable, Symbols};
+use guest_words::{Ending, Fault, FaultName, Kind, MemoryWant, Point, PointRef, Points, Ret};
 use run_history::{Entry, History};
 use sqlite_items::Items;
 use std::alloc::Global;
@@ -71,22 +72,23 @@ fn load_across_pages(rt: HostRuntime) -> Result<(), Fail> {
     Ok(())
 }
 
-fn symbol(alloc: Global, value: u64, size: u64, name: &str) -> Result<Symbol, MemoryWant> {
-    Ok(Symbol {
-        value,
-        size,
-        name: Name::of(String::from_str(alloc, name)?),
-    })
-}
-
 #[test]
 fn two_symbols(rt: HostRuntime) -> Result<(), Fail> {
     let alloc = rt.alloc();
-    let mut items = Vec::new(alloc);
-    items.push(symbol(alloc, 0x100b0, 36, "handle")?)?;
-    items.push(symbol(alloc, 0x10000, 0, "_start")?)?;
-    let text = list_text(alloc, &Symbols::of(items))?;
+    let entries = *b"\
+        \0\0\0\0\x02\0\x01\0\xb0\0\x01\0\0\0\0\0\x24\0\0\0\0\0\0\0\
+        \x07\0\0\0\x02\0\x01\0\0\0\x01\0\0\0\0\0\0\0\0\0\0\0\0\0";
+    let symbols = Symbols::of(Some(SymbolTable {
+        file: &entries,
+        first: 0,
+        count: 2,
+        strings: b"handle\0_start\0",
+    }));
+    let mut text = String::new(alloc);
+    for row in &ordered_rows(alloc, &symbols)? {
+        put_row(alloc, &mut text, row)?;
+    }
     let lines = "0000000000010000 0 _start\n00000000000100b0 36 handle\n";
-    assert!(rt; text.items() == lines.as_bytes());
+    assert!(rt; text.as_str() == lines);
     Ok(())
 }

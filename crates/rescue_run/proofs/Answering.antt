@@ -74,7 +74,8 @@ memory_comes : (r : Result Task Outcome) (handed : Seen) (sink sink' : End) (tol
 memory_comes (Err refusal) handed sink sink' told is line still = record { outcome = inr is; line = line; still = still }
 memory_comes (Ok (task.Run start)) handed sink sink' told is line still = memory_run start handed sink sink' told is line still
 memory_comes (Ok (task.List symbols)) handed sink sink' told is line still = record {
-  lists = subst (λ o. PutsList symbols o sink sink') (sym is) (subst (λ o. IsTold (line_of o) sink sink') is line);
+  lists = subst (λ o. PutsList symbols o sink sink') (sym is)
+      (record { middle = sink; began = inl refl; told = subst (λ o. IsTold (line_of o) sink sink') is line });
   still = still;
 }
 memory_comes (Ok (task.Load load)) handed sink sink' told is line still = memory_load load handed sink sink' told is line still

@@ -25,14 +25,11 @@ pub record BreaksElf (program : List ℕ) (outcome : Outcome) : Type 0 where
 abbrev pub IsUnaccepted : List ℕ → Outcome → Type 0
 IsUnaccepted program outcome = BreaksElf program outcome ⊎ (outcome ≡ Memory)
 
--- the rule that its symbols break first, or want of memory
+-- the rule that its symbols break first
 pub record BreaksSymbols (program : List ℕ) (outcome : Outcome) : Type 0 where
   pub broken : SymFault × ℕ
   pub first : first_symbol_fault program ≡ Some broken
   pub names : outcome ≡ Symbols broken.0 broken.1
-
-abbrev pub IsUnnamed : List ℕ → Outcome → Type 0
-IsUnnamed program outcome = BreaksSymbols program outcome ⊎ (outcome ≡ Memory)
 
 -- the rescue file of a name was loaded, and gave this
 pub record ReadsName (name program : List ℕ) (old new : Shelved)

@@ -14,15 +14,15 @@ ghost use Rattle.rescue_run.specs.Top.{told, RunsOn, StaySame};
 ghost use Rattle.rescue_run.specs.declared.start.Start.{Start};
 
 use crate::answer::Answer;
+use crate::listing::Listing;
 use crate::load::{LoadRan, run_load};
 use crate::outcome::Outcome;
-use crate::put::{put_line, put_list, put_report, put_summary};
+use crate::put::{put_line, put_report, put_summary, put_symbols};
 use crate::run::{Ran, run};
 use crate::shared::run_on_threads;
 use crate::start::Start;
 use crate::task::LoadTask;
 use edge_ports::{Devices, Port, Sink, Source};
-use elf_symbols::Symbols;
 use std::alloc::Global;
 use std::sync::Wait;
 use std::thread::Threads;
@@ -71,16 +71,16 @@ pub fn answer_with_line<S, T, P, R: Sink>(
 /// The answer of a list: it is put.
 pub fn answer_list<S: Source, T: Sink, P: Port, R: Sink>(
     alloc: Global,
-    symbols: &Symbols,
+    listing: &Listing,
     devices: Devices<S, T, P>,
     report: &mut R,
 ) -> Answer<S, T, P>
-    ensures listing { IsListing symbols.now (seen S.end T.end P.end devices) (R.end report.old)
+    ensures listing { IsListing listing.now (seen S.end T.end P.end devices) (R.end report.old)
         (R.end report.new) (told S.end T.end P.end result) }
     ensures status { result.status ≡ status_of result.outcome }
     ensures same { StaySame result.history devices result.devices }
 {
-    let outcome = put_list(alloc, report, symbols);
+    let outcome = put_symbols(alloc, report, &listing.symbols());
     still(outcome, devices)
 }
 

@@ -4,8 +4,10 @@
 mod answer;
 mod answers;
 mod failures;
+mod file_ports;
 mod files;
 mod lines;
+mod listing;
 mod load;
 mod loading;
 mod outcome;
@@ -21,5 +23,5 @@ mod tops;
 
 pub use answer::Answer;
 pub use outcome::{Outcome, Which};
-pub use system::{run_words, run_words_to};
+pub use system::{run_program, run_program_to};
 pub use tops::{alone_top, top};

@@ -75,8 +75,8 @@ fn prepare_list<F: Shelf>(alloc: Global, program: Name, shelf: &mut F) -> Result
     ensures can { IfOk result (CanStart false) }
     ensures follows { Follows (F.seen shelf.old) (F.seen shelf.new) }
 {
-    let symbols = load_symbols(alloc, &program, shelf)?;
-    Ok(Task::List(symbols))
+    let listing = load_symbols(alloc, &program, shelf)?;
+    Ok(Task::List(listing))
 }
 
 /// What a command asks for, or why nothing is done.

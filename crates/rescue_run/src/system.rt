@@ -1,103 +1,114 @@
-//! The top calls over the files and the streams of the system.
-use crate::put::put_memory;
-use crate::tops::{alone_top, top};
-use edge_ports::{FilePort, FileShelf, Port, Standard, StdSink, StdSource};
-use program_words::{PortNames, WordsFault, needs_threads, port_names, report_to_out};
-use std::alloc::AllocError;
+//! The program over the files and the streams of the system.
+use crate::file_ports::top_on_files;
+use crate::outcome::Outcome;
+use crate::put::put_line;
+use edge_ports::{FileShelf, Standard, StdSink, StdSource};
+use program_words::{PortNames, WordFault, WordsFault, port_names, report_to_out};
+use std::fs::File;
+use std::io::ErrorKind;
 use std::process::ExitCode;
 use std::sync::Wait;
 use std::thread::Threads;
+use std::{env, fs, io};
 use stop_gate::OpenDoor;
 
-/// Runs a program by the words of a command, and answers its exit status. What the command tells
-/// goes to standard output where it is the command's own output, and else to standard error.
+/// Does what the words of the command line ask for, and answers the exit status. What the command
+/// tells goes to standard output where it is the command's own output, and else to standard error.
 ///
 /// `host` starts the threads of a command that needs some, and then it may wait forever.
-pub fn run_words<H: Threads + Wait + Sync>(
+pub fn run_program<H: Threads + Wait + Sync>(host: &H, rt: &HostRuntime) -> ExitCode {
+    let _held = hold_streams(rt);
+    match words_of(rt) {
+        Ok(words) => {
+            let report = report_of(rt, &words);
+            run_words(host, rt, &words, report)
+        }
+        Err(outcome) => refuse(rt, Standard::Err(rt.stderr()), outcome),
+    }
+}
+
+/// Does what [`run_program`] does. All that the command tells goes to `report`.
+pub fn run_program_to<H: Threads + Wait + Sync>(
     host: &H,
     rt: &HostRuntime,
-    words: &[String],
-) -> Result<ExitCode, AllocError> {
-    let report = if report_to_out(words) {
+    report: Standard,
+) -> ExitCode {
+    let _held = hold_streams(rt);
+    match words_of(rt) {
+        Ok(words) => run_words(host, rt, &words, report),
+        Err(outcome) => refuse(rt, report, outcome),
+    }
+}
+
+/// A folder at the number of each standard stream that is closed, so that no other file gets it.
+/// Reads and writes fail there, as they do at a closed stream.
+fn hold_streams(rt: &HostRuntime) -> [io::Result<File>; 3] {
+    [fs::open(rt, "/"), fs::open(rt, "/"), fs::open(rt, "/")]
+}
+
+/// The words behind the program's name.
+fn words_of(rt: &HostRuntime) -> Result<Vec<String>, Outcome> {
+    let mut words = Vec::new(rt.alloc());
+    for word in env::args(rt).map_err(|error| unread(&error))?.skip(1) {
+        if words.push(word).is_err() {
+            return Err(Outcome::Memory);
+        }
+    }
+    Ok(words)
+}
+
+/// What words come to that can't be read. One that isn't a text is no word of a command.
+fn unread(error: &io::Error) -> Outcome {
+    match error.kind() {
+        ErrorKind::OutOfMemory => Outcome::Memory,
+        _ => Outcome::Words(WordFault::Line),
+    }
+}
+
+/// Where a command tells what it has to.
+fn report_of(rt: &HostRuntime, words: &[String]) -> Standard {
+    if report_to_out(words) {
         Standard::Out(rt.stdout())
     } else {
         Standard::Err(rt.stderr())
-    };
-    run_words_to(host, rt, words, report)
+    }
 }
 
-/// Runs a program by the words of a command, as [`run_words`] does. What the command tells goes to
-/// `report`. The ports are those that the words name, and none where they are refused.
-pub fn run_words_to<H: Threads + Wait + Sync>(
+/// Puts the line of an outcome, and answers its exit status.
+fn refuse(rt: &HostRuntime, report: Standard, outcome: Outcome) -> ExitCode {
+    let mut report = StdSink::new(report);
+    ExitCode::from(put_line(rt.alloc(), &mut report, outcome).status())
+}
+
+/// Does what the words of a command ask for. The ports are those that the words name, and none
+/// where they are refused.
+fn run_words<H: Threads + Wait + Sync>(
     host: &H,
     rt: &HostRuntime,
     words: &[String],
     report: Standard,
-) -> Result<ExitCode, AllocError> {
-    let alloc = rt.alloc();
-    let report = StdSink::new(report);
-    let names = match port_names(alloc, words) {
+) -> ExitCode {
+    let names = match port_names(rt.alloc(), words) {
         Ok(names) => names,
-        Err(WordsFault::Words(_)) => PortNames::of(Vec::new(alloc)),
-        Err(WordsFault::Memory) => return Ok(want_memory(report)),
+        Err(WordsFault::Words(_)) => PortNames::of(Vec::new(rt.alloc())),
+        Err(WordsFault::Memory) => return refuse(rt, report, Outcome::Memory),
     };
-    let mut ports: Vec<Box<dyn Port + Send>> = Vec::new(alloc);
-    for name in names.items() {
-        let port = FilePort::open(rt, name.input.items(), name.output.items());
-        let Ok(port) = Box::new(alloc, port) else {
-            return Ok(want_memory(report));
-        };
-        if ports.push(port).is_err() {
-            return Ok(want_memory(report));
-        }
-    }
-    run_on(host, rt, words, ports, report)
-}
-
-/// Puts the line of want of memory, and answers its exit status.
-fn want_memory(report: StdSink<Standard>) -> ExitCode {
-    let mut report = report;
-    ExitCode::from(put_memory(&mut report).status())
-}
-
-/// Runs a program by the words of a command on these ports and the streams of the system.
-fn run_on<H: Threads + Wait + Sync>(
-    host: &H,
-    rt: &HostRuntime,
-    words: &[String],
-    ports: Vec<Box<dyn Port + Send>>,
-    report: StdSink<Standard>,
-) -> Result<ExitCode, AllocError> {
-    let alloc = rt.alloc();
-    let mut report = report;
-    let mut shelf = FileShelf::new(rt.clone()?);
-    let input = StdSource::new(rt.stdin());
-    let out = StdSink::new(Standard::Out(rt.stdout()));
-    let err = StdSink::new(Standard::Err(rt.stderr()));
-    let answer = if needs_threads(words) {
-        top(
-            host,
-            alloc,
-            words,
-            &mut shelf,
-            input,
-            out,
-            err,
-            ports,
-            &mut report,
-            &OpenDoor,
-        )
-    } else {
-        alone_top(
-            alloc,
-            words,
-            &mut shelf,
-            input,
-            out,
-            err,
-            ports,
-            &mut report,
-        )
+    let Ok(ports) = Vec::with_capacity(rt.alloc(), names.items().len()) else {
+        return refuse(rt, report, Outcome::Memory);
     };
-    Ok(ExitCode::from(answer.status))
+    let answer = top_on_files(
+        host,
+        rt.alloc(),
+        words,
+        &mut FileShelf::new(*rt),
+        StdSource::new(rt.stdin()),
+        StdSink::new(Standard::Out(rt.stdout())),
+        StdSink::new(Standard::Err(rt.stderr())),
+        rt,
+        names.items(),
+        ports,
+        &mut StdSink::new(report),
+        &OpenDoor,
+    );
+    ExitCode::from(answer.status)
 }

@@ -1,5 +1,5 @@
+use crate::listing::Listing;
 use crate::start::Start;
-use elf_symbols::Symbols;
 use guest_words::Bytes;
 
 /// The load of a number, which runs on devices of its own.
@@ -16,7 +16,7 @@ pub enum Task {
     /// To run a program on the devices that are handed in.
     Run(Start),
     /// To list the symbols of a program.
-    List(Symbols),
+    List(Listing),
     /// To run a load, and to put its summary.
     Load(LoadTask),
 }

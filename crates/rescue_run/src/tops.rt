@@ -29,7 +29,12 @@ fn port_count<S: Source, T: Sink, P: Port>(devices: &Devices<S, T, P>) -> u64
 }
 
 /// The devices of a run, none of them closed.
-fn connect<S: Source, T: Sink, P: Port>(input: S, out: T, err: T, ports: Vec<P>) -> Devices<S, T, P>
+pub fn connect<S: Source, T: Sink, P: Port>(
+    input: S,
+    out: T,
+    err: T,
+    ports: Vec<P>,
+) -> Devices<S, T, P>
     ensures told { seen S.end T.end P.end result
         ≡ handed S.end T.end P.end input out err ports.items }
     ensures open { AllOpen (seen S.end T.end P.end result) }
@@ -57,14 +62,14 @@ fn answer<S: Source, T: Sink, P: Port, R: Sink>(
 {
     match prepared {
         Ok(Task::Run(start)) => answer_run(alloc, &start, devices, report),
-        Ok(Task::List(symbols)) => answer_list(alloc, &symbols, devices, report),
+        Ok(Task::List(listing)) => answer_list(alloc, &listing, devices, report),
         Ok(Task::Load(load)) => answer_load(alloc, load, devices, report),
         Err(outcome) => answer_with_line(alloc, outcome, devices, report),
     }
 }
 
 /// Does what was prepared, where there are threads, or puts why nothing is done.
-fn answer_on_threads<
+pub fn answer_on_threads<
     H: Threads + Wait + Sync,
     S: Source + Send,
     T: Sink + Send,
@@ -88,7 +93,7 @@ fn answer_on_threads<
 {
     match prepared {
         Ok(Task::Run(start)) => { answer_run_on_threads(rt, alloc, &start, devices, report, door) }
-        Ok(Task::List(symbols)) => answer_list(alloc, &symbols, devices, report),
+        Ok(Task::List(listing)) => answer_list(alloc, &listing, devices, report),
         Ok(Task::Load(load)) => answer_load(alloc, load, devices, report),
         Err(outcome) => answer_with_line(alloc, outcome, devices, report),
     }

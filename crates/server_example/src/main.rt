@@ -2,14 +2,9 @@
 #![tactic(auto)]
 
 use edge_ports::Standard;
-use rescue_run::run_words_to;
-use std::env;
+use rescue_run::run_program_to;
 use std::process::ExitCode;
 
-fn main(rt: HostRuntime) -> anyhow::Result<ExitCode> {
-    let mut words = Vec::new(rt.alloc());
-    for word in env::args(&rt)?.skip(1) {
-        words.push(word)?;
-    }
-    Ok(run_words_to(&rt, &rt, &words, Standard::Out(rt.stdout()))?)
+fn main(rt: HostRuntime) -> ExitCode {
+    run_program_to(&rt, &rt, Standard::Out(rt.stdout()))
 }

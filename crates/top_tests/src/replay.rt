@@ -61,7 +61,9 @@ pub fn loaded(alloc: Global, file: &[u8]) -> Result<Image, AllocError>
 pub fn named(alloc: Global, file: &[u8], points: &str) -> Result<Points, AllocError> {
     match load(alloc, file) {
         Ok(_) => {
-            let symbols = functions(alloc, file).map_err(|_| AllocError)?;
+            let Ok(symbols) = functions(file) else {
+                return Err(AllocError);
+            };
             let text = [Span {
                 from: TEXT,
                 size: 4096,

@@ -1,4 +1,4 @@
-ghost use Rattle.std.specs.Prelude.{◌≡◌, ◌+◌, ◌-◌, ◌<◌, ◌≤◌, [], ◌∷◌, ◌++◌, length};
+ghost use Rattle.std.specs.Prelude.{◌≡◌, ◌+◌, ◌-◌, ◌<◌, ◌≤◌, [], ◌∷◌, ◌++◌, drop, length, take, vec_capacity};
 ghost use Rattle.std.specs.Prelude.{IsOk, OnOk, OnErr};
 ghost use Rattle.undo_log.specs.Undo.{undone, gone_in};
 
@@ -11,7 +11,7 @@ use std::marker::Model;
 /// Notes, the oldest first, with room for more.
 #[derive(Drop)]
 pub struct Log {
-    notes: Vec<Note>,
+    pub(crate) notes: Vec<Note>,
 }
 
 impl Model for Log {
@@ -133,39 +133,35 @@ impl Log {
         Ok(())
     }
 
-    /// Puts these notes behind those of the log of the call around. Takes no memory.
-    pub fn join_onto(self, outer: &mut Log)
-        requires room { length self.notes ≤ outer.old.spare }
-        ensures notes { outer.new.notes ≡ outer.old.notes ++ self.notes }
-        ensures room { outer.old.spare ≤ outer.new.spare + length self.notes }
+    /// The number of notes more that have room.
+    pub fn room(&self) -> u64
+        ensures value { result ≡ self.now.spare }
     {
-        let mut log = self;
-        log.move_onto(outer);
+        (self.notes.capacity() - self.notes.len()) as u64
     }
 
-    /// Puts these notes behind those of another log, and keeps the room that they had. Takes no
-    /// memory.
-    pub fn move_onto(&mut self, outer: &mut Log)
-        requires room { length self.old.notes ≤ outer.old.spare }
-        ensures notes { outer.new.notes ≡ outer.old.notes ++ self.old.notes }
-        ensures none { self.new.notes ≡ [] }
-        ensures kept { self.old.spare + length self.old.notes ≤ self.new.spare }
-        ensures room { outer.old.spare ≤ outer.new.spare + length self.old.notes }
+    /// Puts the notes from a position on back, the newest first, and forgets them. Takes no memory.
+    pub fn undo_from<U: Restore>(&mut self, from: u64, into: &mut U)
+        requires room { gone_in (drop from self.old.notes) ≤ U.spare into.old }
+        ensures value { into.new ≡ undone U.put_back (drop from self.old.notes) into.old }
+        ensures notes { self.new.notes ≡ take from self.old.notes }
+        ensures room { self.old.spare ≤ self.new.spare }
     {
-        match outer.notes.append(&mut self.notes) {
-            Ok(()) => {}
-            Err(_) => unreachable!(),
-        }
+        put_newer(&mut self.notes, from, into);
     }
+}
 
-    /// Puts all notes back, the newest first. Takes no memory.
-    pub fn undo<U: Restore>(self, into: &mut U)
-        requires room { gone_in self.notes ≤ U.spare into.old }
-        ensures value { into.new ≡ undone U.put_back self.notes into.old }
-    {
-        let Log { mut notes } = self;
-        while let Some(note) = notes.pop() {
-            put_note(note, into);
+// Puts notes back, the newest first, until so many are left.
+fn put_newer<U: Restore>(notes: &mut Vec<Note>, left: u64, into: &mut U)
+    requires room { gone_in (drop left notes.old.items) ≤ U.spare into.old }
+    ensures value { into.new ≡ undone U.put_back (drop left notes.old.items) into.old }
+    ensures notes { notes.new.items ≡ take left notes.old.items }
+    ensures capacity { vec_capacity notes.new ≡ vec_capacity notes.old }
+{
+    while notes.len() as u64 > left {
+        match notes.pop() {
+            Some(note) => put_note(note, into),
+            None => {}
         }
     }
 }

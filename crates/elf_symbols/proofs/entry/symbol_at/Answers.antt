@@ -15,5 +15,5 @@ pub returns : goal.returns
 returns c =
     let function : is_function c.args.file.now c.args.entry ≡ true = grind (arith, nat_tests) in
     let text = ap is_utf8 (sym c.name_of.ensures) ∙ is_utf8-from_IsUtf8 c.name_of.result.now c.in-Ok.ensures.cases.1 in
-    let name = c.of.ensures.list ∙ c.in_ok-from_str.ensures.ok ∙ c.in-Ok.ensures.cases.0 ∙ c.name_of.ensures in
+    let name = c.of.ensures.list ∙ c.in-Ok.ensures.cases.0 ∙ c.name_of.ensures in
     symbol_is c.args.file.now c.args.strings.now c.args.entry _ _ _ function text c.u64_at.ensures c.u64_at-2.ensures name

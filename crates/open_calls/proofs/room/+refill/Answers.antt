@@ -1,5 +1,4 @@
 use Rattle.std.proofs.Common.{◌++◌, ◌∷◌, [], sym, subst}
-use Rattle.open_calls.specs.declared.room.Room.{Room}
 use Rattle.open_calls.specs.Rooms.{turned, AreRoomier, HasRoom}
 use Rattle.open_calls.proofs.Filling.{turned-push, refill_push, roomier_same, on_ok}
 use Rattle.open_calls.proofs.room.+refill.Goals as goal
@@ -19,9 +18,8 @@ returns-in_ok-around-in-Some-clause-roomier n c =
 pub returns-in_ok-around-in-Some-clause-room : goal.returns-in_ok-around-in-Some-clause-room
 returns-in_ok-around-in-Some-clause-room n c =
     on_ok c.refill.result _ _
-    (λ r. subst (HasRoom c.args.room.entries c.args.room.notes) (sym (turned-push c.refill.new.outers c.make_around.new.outer)) (
+    (λ r. subst (HasRoom c.args.entries) (sym (turned-push c.refill.new.outers c.make_around.new.outer)) (
       c.in_ok-around-in-Some.ensures.entries,
-      c.in_ok-around-in-Some.ensures.notes,
-      subst (λ (x : Room). HasRoom x.entries x.notes (turned c.refill.new.outers)) c.in_ok-around-in-Some.ensures.around r,
+      subst (λ x. HasRoom x (turned c.refill.new.outers)) c.in_ok-around-in-Some.ensures.around r,
     ))
     c.refill.ensures.room

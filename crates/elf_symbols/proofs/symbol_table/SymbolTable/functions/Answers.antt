@@ -4,7 +4,7 @@ use Rattle.elf_symbols.proofs.PlaceLists.{places_none, flat_map_next}
 use Rattle.elf_symbols.proofs.symbol_table.SymbolTable.functions.Goals as goal
 
 pub loop-k-init : goal.loop-k-init
-loop-k-init c = rw places_none c.new-symbols.ensures.items
+loop-k-init c = rw places_none c.in_ok-symbols.ensures.items
 
 pub loop-k-preserved : goal.loop-k-preserved
 loop-k-preserved c =

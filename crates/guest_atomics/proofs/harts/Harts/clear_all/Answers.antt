@@ -1,9 +1,15 @@
 use Rattle.std.proofs.Common.{sym, refl}
+use Rattle.guest_words.specs.Harts.{unreserved}
 use Rattle.guest_atomics.proofs.FreeHarts.{map-unreserved-free, All-unreserved}
+use Rattle.guest_atomics.proofs.IdleHarts.{map-idle}
 use Rattle.guest_atomics.proofs.harts.Harts.clear_all.Goals as goal
 
 pub invariant_of-self : goal.invariant_of-self
-invariant_of-self c none other apart d = rw c.end_all.ensures.value (All-unreserved c.self.inside.items.items other d)
+invariant_of-self c = record {
+  free = λ none other apart d. rw c.end_all.ensures.value (All-unreserved c.self.inside.items.items other d);
+  idle = rw c.end_all.ensures.value (map-idle unreserved (λ hart. refl) c.self.inside.used c.self.inside.items.items c.self.invariant.idle);
+  within = c.self.invariant.within;
+}
 
 pub returns-else-may_hold : goal.returns-else-may_hold
 returns-else-may_hold c = record {

@@ -1,4 +1,4 @@
-use Rattle.std.proofs.Common.{◌≡◌, ◌≤◌, ◌+◌, ◌∙◌, ℕ, List, length, map, sym, ap, subst}
+use Rattle.std.proofs.Common.{◌≡◌, ◌≤◌, ◌+◌, ◌∙◌, ℕ, List, drop, length, map, sym, ap, subst}
 use Rattle.guest_words.specs.declared.hart.Slot.{Slot}
 use Rattle.guest_words.specs.declared.hart.Waiter.{Waiter}
 use Rattle.guest_words.specs.declared.point.Point.{Point}
@@ -17,14 +17,14 @@ use Rattle.hart_step.proofs.HartStates.{states, states-back, waits-rejoined, wai
 use Rattle.hart_step.proofs.Kept.{low-undone, undone-ground}
 use Rattle.hart_step.proofs.engine.Engine.take_back.Goals as goal
 
-ground-is : (c : goal.After-spend) → c.spend.new.self ≡ record { memory = space_before (the_view c.self.inside) c.args.log.notes; points = spent c.self.inside.guest.points c.args.point.entry }
+ground-is : (c : goal.After-spend) → c.spend.new.self ≡ record { memory = space_before (the_view c.self.inside) (drop c.args.from c.args.log.now.notes); points = spent c.self.inside.guest.points c.args.point.entry }
 ground-is c =
     let e = c.self.inside in
     c.spend.ensures.value
-    ∙ ap (λ (g : Ground). record g { points = spent g.points c.args.point.entry }) (c.undo.ensures.value ∙ undone-ground c.args.log.notes e.guest)
+    ∙ ap (λ (g : Ground). record g { points = spent g.points c.args.point.entry }) (c.undo_from.ensures.value ∙ undone-ground (drop c.args.from c.args.log.now.notes) e.guest)
 
-space-is : (c : goal.After-spend) → c.spend.new.self.memory ≡ space_before c.args.self.now c.args.log.notes
-space-is c = ap (λ (g : Ground). g.memory) (ground-is c) ∙ ap (λ (l : Live). space_before l c.args.log.notes) c.self.view_is
+space-is : (c : goal.After-spend) → c.spend.new.self.memory ≡ space_before c.args.self.now (drop c.args.from c.args.log.now.notes)
+space-is c = ap (λ (g : Ground). g.memory) (ground-is c) ∙ ap (λ (l : Live). space_before l (drop c.args.from c.args.log.now.notes)) c.self.view_is
 
 pub invariant_of-self : goal.invariant_of-self
 invariant_of-self c =
@@ -53,7 +53,7 @@ returns-clause-after c =
     let e = c.self.inside in
     let h = c.args.hart in
     let live : Live = the_view e in
-    let notes = c.args.log.notes in
+    let notes = drop c.args.from c.args.log.now.notes in
     let build : Ground → ℕ → List Slot → List Waiter → State = λ g low xs ws.
     record live.state { memory = g.memory.space; low = low; brk = g.memory.brk; points = g.points; slots = xs; waiting = ws; next_tid = c.args.kept.next_tid } in
     let code : c.code-code.result ≡ code_of e.guest.points c.args.point.entry c.args.fault.name =

@@ -1,14 +1,12 @@
-use Rattle.std.proofs.Common.{◌≡◌, ◌<◌, ◌++◌, [], ℕ, true, false, List, length, inl, inr, OnOk, OnErr, refl, ap, sym, ◌∙◌, subst, arith}
+use Rattle.std.proofs.Common.{◌≡◌, ◌<◌, ◌++◌, ℕ, true, false, length, inl, inr, OnOk, OnErr, refl, ap, sym, ◌∙◌, subst, arith}
 use Rattle.guest_words.specs.Endings.{is_budget_spent}
 use Rattle.guest_words.specs.State.{State, frames_at}
 use Rattle.edge_ports.specs.DevicesMatch.{DevicesMatch}
 use Rattle.edge_ports.specs.Seen.{Seen, seen as told, spare}
-use Rattle.run_history.specs.declared.entry.Entry.{Entry}
 use Rattle.run_history.specs.After.{ran}
 use Rattle.run_history.specs.LastEntry.{with_acts}
 use Rattle.run_history.specs.Legal.{can_run}
 use Rattle.run_history.proofs.RunSteps.{ran-none}
-use Rattle.hart_step.specs.Live.{Live, space_of}
 use Rattle.hart_step.specs.Stops.{IsPlainRow, Stops, is_held}
 use Rattle.open_calls.specs.Nest.{Stack}
 use Rattle.machine_core.specs.Inner.{Holds, Inner, IsGoing, inner_of}
@@ -17,42 +15,35 @@ use Rattle.machine_core.specs.OpenSteps.{StaysOpen}
 use Rattle.machine_core.specs.Under.{Goes, IsWanting}
 use Rattle.machine_core.proofs.Asking.{acts_goes, acts_hold, acts_records}
 use Rattle.machine_core.proofs.Holding.{Puts}
-use Rattle.machine_core.proofs.Making.{few_notes, holds_log, lead, made, nil_of, not_held, on_err, on_ok, spares, still}
+use Rattle.machine_core.proofs.Making.{holds_log, made, not_held, on_err, same_inner, unmoved}
 use Rattle.machine_core.proofs.inner.Inner.act.Given as given
 use Rattle.machine_core.proofs.inner.Inner.act.Goals as goal
 
 pub returns-then-is_err-clause-err : goal.returns-then-is_err-clause-err
 returns-then-is_err-clause-err g c =
     let e = told g.S.Source.end g.T.Sink.end g.P.Port.end c.args.devices.now in
-    let same : inner_of c.self.inside.engine c.make_room.new.calls c.self.inside.abandoned ≡ inner_of c.self.inside.engine c.self.inside.calls c.self.inside.abandoned = λ i. record {
-      hart = c.make_room.ensures.hart i;
-      nest = c.make_room.ensures.nest i;
-      live = c.self.inside.engine;
-      abandoned = c.self.inside.abandoned;
-    } in
+    let same = same_inner c.self.inside.engine c.self.inside.engine c.self.inside.calls c.make_room.new.calls c.self.inside.log c.make_room.new.log c.self.inside.abandoned c.make_room.ensures.nest c.make_room.ensures.hart c.make_room.ensures.same refl in
     subst (λ (x : Inner). OnErr c.fail_or_want.result (IsWanting x e c.fail_or_want.new.self e)) (same ∙ c.self.view_is)
-    (on_err c.fail_or_want.result _ (IsWanting (inner_of c.self.inside.engine c.make_room.new.calls c.self.inside.abandoned) e c.fail_or_want.new.self e) (λ all. all e) c.fail_or_want.ensures.err)
+    (on_err c.fail_or_want.result _ (IsWanting (inner_of c.self.inside.engine c.make_room.new.calls c.make_room.new.log c.self.inside.abandoned) e c.fail_or_want.new.self e) (λ all. all e) c.fail_or_want.ensures.err)
 
 -- acts in a row were made
 
 abbrev w : (g : given.Over) (c : goal.After-put_run g) → Inner
-w g c = inner_of c.self.inside.engine c.self.inside.calls c.self.inside.abandoned
+w g c = inner_of c.self.inside.engine c.self.inside.calls c.self.inside.log c.self.inside.abandoned
 
 abbrev v : (g : given.Over) (c : goal.After-put_run g) → Inner
-v g c = inner_of c.run-count.new.self c.put_run.new.self c.self.inside.abandoned
+v g c = inner_of c.run-count.new.self c.put_run.new.self c.run-count.new.log c.self.inside.abandoned
 
 own : (g : given.Over) (c : goal.After-put_run g) → c.hart-hart.result ≡ c.self.inside.calls.hart
 own g c = c.hart-hart.ensures.value ∙ c.make_room.ensures.hart
 
-puts_it : (g : given.Over) (c : goal.After-put_run g) → Puts (with_acts c.self.inside.calls.hart c.run-count.result.count) (w g c) (v g c)
+puts_it : (g : given.Over) (c : goal.After-put_run g) → Puts (with_acts c.self.inside.calls.hart c.run-count.result.count) (w g c) (v g c) c.self.inside.log c.run-count.new.log
 puts_it g c =
-    let none = c.make_room.ensures.same ∙ c.self.invariant.none in
-    made c.self.inside.engine c.run-count.new.self c.self.inside.calls c.make_room.new.calls c.close_to.new.self c.put_run.new.self c.self.inside.abandoned
-    c.hart-hart.result c.close_to.new.self.hart c.frame_count.result (λ k es. with_acts k c.run-count.result.count es) c.run-count.new.log.notes
+    let notes = c.run-count.ensures.notes in
+    made c.self.inside.engine c.run-count.new.self c.self.inside.calls c.make_room.new.calls c.close_to.new.self c.put_run.new.self c.self.inside.log c.run-count.new.log c.self.inside.abandoned
+    c.hart-hart.result c.close_to.new.self.hart c.frame_count.result (λ k es. with_acts k c.run-count.result.count es) notes.more
     c.make_room.ensures.nest c.make_room.ensures.hart (own g c) (ap (λ (x : Stack). x.hart) c.close_to.ensures.same ∙ c.make_room.ensures.hart) c.frame_count.ensures.value c.close_to.ensures.same
-    c.put_run.ensures.nest c.put_run.ensures.hart
-    (λ some. lead true c.make_room.new.pending.notes c.run-count.new.log.notes (space_of c.self.inside.engine) (space_of c.run-count.new.self) none c.run-count.ensures.notes refl)
-    (spares true c.make_room.new.pending.notes c.run-count.new.log.notes (space_of c.self.inside.engine) (space_of c.run-count.new.self) none c.run-count.ensures.notes)
+    c.put_run.ensures.nest c.put_run.ensures.hart (notes.behind ∙ ap (λ ns. ns ++ notes.more) c.make_room.ensures.same) (λ some. notes.lead refl) notes.spare
 
 going : (g : given.Over) (c : goal.After-put_run g) → IsGoing (w g c)
 going g c = c.self.invariant.called (subst (λ (x : Inner). 0 < length x.nest.outers) (sym c.self.view_is) c.requires.called)
@@ -71,14 +62,14 @@ stays g c = λ fewer less. (subst (λ h. IsPlainRow true c.self.inside.engine.st
 
 pub invariant_of-self-then-count-gt0 : goal.invariant_of-self-then-count-gt0
 invariant_of-self-then-count-gt0 g c =
-    acts_hold g.K.Origin.state g.K.Origin.devices (w g c) (v g c) c.self.inside.pending c.put_run.new.log c.self.invariant (going g c) (fresh g c)
-    c.run-count.result.count c.if-count-gt0.true (goes g c) (to g c) (puts_it g c) c.put_run.ensures.none
+    acts_hold g.K.Origin.state g.K.Origin.devices (w g c) (v g c) c.self.inside.log c.run-count.new.log c.self.invariant (going g c) (fresh g c)
+    c.run-count.result.count c.if-count-gt0.true (goes g c) (to g c) (puts_it g c)
 
 pub returns-then-count-gt0-clause-ok : goal.returns-then-count-gt0-clause-ok
 returns-then-count-gt0-clause-ok g c =
     let e = told g.S.Source.end g.T.Sink.end g.P.Port.end c.args.devices.now in
     subst (λ (x : Inner). Goes g.K.Origin.state x e (v g c) e) c.self.view_is
-    (acts_goes g.K.Origin.state g.K.Origin.devices (w g c) (v g c) c.self.inside.pending c.put_run.new.log c.self.invariant (going g c) (fresh g c)
+    (acts_goes g.K.Origin.state g.K.Origin.devices (w g c) (v g c) c.self.inside.log c.run-count.new.log c.self.invariant (going g c) (fresh g c)
     c.run-count.result.count c.if-count-gt0.true (goes g c) (to g c) (puts_it g c) (stays g c) e)
 
 -- the devices match by the records alone
@@ -89,7 +80,7 @@ pub returns-then-count-gt0-clause-devices : goal.returns-then-count-gt0-clause-d
 returns-then-count-gt0-clause-devices g c =
     let e = told g.S.Source.end g.T.Sink.end g.P.Port.end c.args.devices.now in
     by_records g.K.Origin.devices (w g c) (v g c) e (spare c.args.devices.now)
-    (acts_records g.K.Origin.state g.K.Origin.devices (w g c) (v g c) c.self.inside.pending c.put_run.new.log c.self.invariant (going g c) (fresh g c)
+    (acts_records g.K.Origin.state g.K.Origin.devices (w g c) (v g c) c.self.inside.log c.run-count.new.log c.self.invariant (going g c) (fresh g c)
     c.run-count.result.count c.if-count-gt0.true (goes g c) (to g c) (puts_it g c))
     (subst (λ (x : Inner). HasDevices g.K.Origin.devices x e (spare c.args.devices.now)) (sym c.self.view_is) c.requires.devices)
 
@@ -110,85 +101,65 @@ unreachable-requires g c =
 -- no act was made
 
 abbrev before : (g : given.Over) (c : goal.In-Some g) → Inner
-before g c = inner_of c.self.inside.engine c.self.inside.calls c.self.inside.abandoned
+before g c = inner_of c.self.inside.engine c.self.inside.calls c.self.inside.log c.self.inside.abandoned
 
 abbrev after : (g : given.Over) (c : goal.In-Some g) → Inner
-after g c = inner_of c.run-count.new.self c.make_room.new.calls c.self.inside.abandoned
+after g c = inner_of c.run-count.new.self c.make_room.new.calls c.run-count.new.log c.self.inside.abandoned
 
-none_of : (g : given.Over) (c : goal.In-Some g) → c.run-count.new.log.notes ≡ []
-none_of g c =
-    nil_of c.make_room.new.pending.notes c.run-count.new.log.notes c.run-count.result.count (c.make_room.ensures.same ∙ c.self.invariant.none) (let none = c.if-count-gt0.false in omega (arith, none)) c.run-count.ensures.few
-
-same : (g : given.Over) (c : goal.In-Some g) → after g c ≡ before g c
+same : (g : given.Over) (c : goal.In-Some g) → (after g c ≡ before g c) × (c.run-count.new.log.notes ≡ c.self.inside.log.notes)
 same g c =
-    let live = still c.self.inside.engine c.run-count.new.self c.hart-hart.result c.run-count.result.count c.run-count.new.log.notes (let none = c.if-count-gt0.false in omega (arith, none)) c.run-count.ensures.after (none_of g c)
-    (spares true c.make_room.new.pending.notes c.run-count.new.log.notes (space_of c.self.inside.engine) (space_of c.run-count.new.self) (c.make_room.ensures.same ∙ c.self.invariant.none) c.run-count.ensures.notes) in
-    λ i. record { hart = c.make_room.ensures.hart i; nest = c.make_room.ensures.nest i; live = live i; abandoned = c.self.inside.abandoned }
+    unmoved true c.self.inside.engine c.run-count.new.self c.self.inside.calls c.make_room.new.calls c.self.inside.log c.make_room.new.log c.run-count.new.log c.self.inside.abandoned c.hart-hart.result c.run-count.result.count
+    c.make_room.ensures.nest c.make_room.ensures.hart c.make_room.ensures.same (let none = c.if-count-gt0.false in omega (arith, none)) c.run-count.ensures.after c.run-count.ensures.notes c.run-count.ensures.few
 
 pub invariant_of-self-in-Some : goal.invariant_of-self-in-Some
 invariant_of-self-in-Some g c =
-    subst (λ (x : Inner). Holds g.K.Origin.state g.K.Origin.devices x c.run-count.new.log) (sym (same g c))
-    (holds_log g.K.Origin.state g.K.Origin.devices (before g c) c.self.inside.pending c.run-count.new.log c.self.invariant (none_of g c))
+    subst (λ (x : Inner). Holds g.K.Origin.state g.K.Origin.devices x c.run-count.new.log) (sym (same g c).0)
+    (holds_log g.K.Origin.state g.K.Origin.devices (before g c) c.self.inside.log c.run-count.new.log c.self.invariant (same g c).1)
 
 abbrev before-arg : (g : given.Over) (c : goal.After-turn-arg-in-Some-1 g) → Inner
-before-arg g c = inner_of c.self.inside.engine c.self.inside.calls c.self.inside.abandoned
+before-arg g c = inner_of c.self.inside.engine c.self.inside.calls c.self.inside.log c.self.inside.abandoned
 
 abbrev after-arg : (g : given.Over) (c : goal.After-turn-arg-in-Some-1 g) → Inner
-after-arg g c = inner_of c.run-count.new.self c.make_room.new.calls c.self.inside.abandoned
+after-arg g c = inner_of c.run-count.new.self c.make_room.new.calls c.run-count.new.log c.self.inside.abandoned
 
-none_of-arg : (g : given.Over) (c : goal.After-turn-arg-in-Some-1 g) → c.run-count.new.log.notes ≡ []
-none_of-arg g c =
-    nil_of c.make_room.new.pending.notes c.run-count.new.log.notes c.run-count.result.count (c.make_room.ensures.same ∙ c.self.invariant.none) (let none = c.if-count-gt0.false in omega (arith, none)) c.run-count.ensures.few
-
-same-arg : (g : given.Over) (c : goal.After-turn-arg-in-Some-1 g) → after-arg g c ≡ before-arg g c
+same-arg : (g : given.Over) (c : goal.After-turn-arg-in-Some-1 g) → (after-arg g c ≡ before-arg g c) × (c.run-count.new.log.notes ≡ c.self.inside.log.notes)
 same-arg g c =
-    let live = still c.self.inside.engine c.run-count.new.self c.hart-hart.result c.run-count.result.count c.run-count.new.log.notes (let none = c.if-count-gt0.false in omega (arith, none)) c.run-count.ensures.after (none_of-arg g c)
-    (spares true c.make_room.new.pending.notes c.run-count.new.log.notes (space_of c.self.inside.engine) (space_of c.run-count.new.self) (c.make_room.ensures.same ∙ c.self.invariant.none) c.run-count.ensures.notes) in
-    λ i. record { hart = c.make_room.ensures.hart i; nest = c.make_room.ensures.nest i; live = live i; abandoned = c.self.inside.abandoned }
+    unmoved true c.self.inside.engine c.run-count.new.self c.self.inside.calls c.make_room.new.calls c.self.inside.log c.make_room.new.log c.run-count.new.log c.self.inside.abandoned c.hart-hart.result c.run-count.result.count
+    c.make_room.ensures.nest c.make_room.ensures.hart c.make_room.ensures.same (let none = c.if-count-gt0.false in omega (arith, none)) c.run-count.ensures.after c.run-count.ensures.notes c.run-count.ensures.few
 
 pub turn-requires-clause-devices : goal.turn-requires-clause-devices
 turn-requires-clause-devices g c =
     let e = told g.S.Source.end g.T.Sink.end g.P.Port.end c.args.devices.now in
-    subst (λ (x : Inner). HasDevices g.K.Origin.devices x e (spare c.args.devices.now)) (sym c.self.view_is ∙ sym (same-arg g c)) c.requires.devices
+    subst (λ (x : Inner). HasDevices g.K.Origin.devices x e (spare c.args.devices.now)) (sym c.self.view_is ∙ sym (same-arg g c).0) c.requires.devices
 
 abbrev before-turn : (g : given.Over) (c : goal.After-turn g) → Inner
-before-turn g c = inner_of c.self.inside.engine c.self.inside.calls c.self.inside.abandoned
+before-turn g c = inner_of c.self.inside.engine c.self.inside.calls c.self.inside.log c.self.inside.abandoned
 
 abbrev after-turn : (g : given.Over) (c : goal.After-turn g) → Inner
-after-turn g c = inner_of c.run-count.new.self c.make_room.new.calls c.self.inside.abandoned
+after-turn g c = inner_of c.run-count.new.self c.make_room.new.calls c.run-count.new.log c.self.inside.abandoned
 
-none_of-turn : (g : given.Over) (c : goal.After-turn g) → c.run-count.new.log.notes ≡ []
-none_of-turn g c =
-    nil_of c.make_room.new.pending.notes c.run-count.new.log.notes c.run-count.result.count (c.make_room.ensures.same ∙ c.self.invariant.none) (let none = c.if-count-gt0.false in omega (arith, none)) c.run-count.ensures.few
-
-same-turn : (g : given.Over) (c : goal.After-turn g) → after-turn g c ≡ before-turn g c
+same-turn : (g : given.Over) (c : goal.After-turn g) → (after-turn g c ≡ before-turn g c) × (c.run-count.new.log.notes ≡ c.self.inside.log.notes)
 same-turn g c =
-    let live = still c.self.inside.engine c.run-count.new.self c.hart-hart.result c.run-count.result.count c.run-count.new.log.notes (let none = c.if-count-gt0.false in omega (arith, none)) c.run-count.ensures.after (none_of-turn g c)
-    (spares true c.make_room.new.pending.notes c.run-count.new.log.notes (space_of c.self.inside.engine) (space_of c.run-count.new.self) (c.make_room.ensures.same ∙ c.self.invariant.none) c.run-count.ensures.notes) in
-    λ i. record { hart = c.make_room.ensures.hart i; nest = c.make_room.ensures.nest i; live = live i; abandoned = c.self.inside.abandoned }
+    unmoved true c.self.inside.engine c.run-count.new.self c.self.inside.calls c.make_room.new.calls c.self.inside.log c.make_room.new.log c.run-count.new.log c.self.inside.abandoned c.hart-hart.result c.run-count.result.count
+    c.make_room.ensures.nest c.make_room.ensures.hart c.make_room.ensures.same (let none = c.if-count-gt0.false in omega (arith, none)) c.run-count.ensures.after c.run-count.ensures.notes c.run-count.ensures.few
 
 pub returns-clause-ok : goal.returns-clause-ok
 returns-clause-ok g c =
     let e = told g.S.Source.end g.T.Sink.end g.P.Port.end c.args.devices.now in
     let f = told g.S.Source.end g.T.Sink.end g.P.Port.end c.turn.new.devices in
-    subst (λ (x : Inner). OnOk c.turn.result (Goes g.K.Origin.state x e c.turn.new.self f)) (same-turn g c ∙ c.self.view_is) c.turn.ensures.ok
+    subst (λ (x : Inner). OnOk c.turn.result (Goes g.K.Origin.state x e c.turn.new.self f)) ((same-turn g c).0 ∙ c.self.view_is) c.turn.ensures.ok
 
 pub returns-clause-err : goal.returns-clause-err
 returns-clause-err g c =
     let e = told g.S.Source.end g.T.Sink.end g.P.Port.end c.args.devices.now in
     let f = told g.S.Source.end g.T.Sink.end g.P.Port.end c.turn.new.devices in
-    subst (λ (x : Inner). OnErr c.turn.result (IsWanting x e c.turn.new.self f)) (same-turn g c ∙ c.self.view_is) c.turn.ensures.err
+    subst (λ (x : Inner). OnErr c.turn.result (IsWanting x e c.turn.new.self f)) ((same-turn g c).0 ∙ c.self.view_is) c.turn.ensures.err
 
 pub fail_or_want-requires-clause-going : goal.fail_or_want-requires-clause-going
 fail_or_want-requires-clause-going g c =
-    let same : inner_of c.self.inside.engine c.make_room.new.calls c.self.inside.abandoned ≡ inner_of c.self.inside.engine c.self.inside.calls c.self.inside.abandoned = λ i. record {
-      hart = c.make_room.ensures.hart i;
-      nest = c.make_room.ensures.nest i;
-      live = c.self.inside.engine;
-      abandoned = c.self.inside.abandoned;
-    } in
+    let same = same_inner c.self.inside.engine c.self.inside.engine c.self.inside.calls c.make_room.new.calls c.self.inside.log c.make_room.new.log c.self.inside.abandoned c.make_room.ensures.nest c.make_room.ensures.hart c.make_room.ensures.same refl in
     subst IsGoing (sym same) (c.self.invariant.called (subst (λ (x : Inner). 0 < length x.nest.outers) (sym c.self.view_is) c.requires.called))
 
 pub turn-requires-clause-going : goal.turn-requires-clause-going
 turn-requires-clause-going g c =
-    subst IsGoing (sym (same-arg g c)) (c.self.invariant.called (subst (λ (x : Inner). 0 < length x.nest.outers) (sym c.self.view_is) c.requires.called))
+    subst IsGoing (sym (same-arg g c).0) (c.self.invariant.called (subst (λ (x : Inner). 0 < length x.nest.outers) (sym c.self.view_is) c.requires.called))

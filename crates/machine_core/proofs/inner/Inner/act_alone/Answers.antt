@@ -1,7 +1,7 @@
-use Rattle.std.proofs.Common.{◌≡◌, Some, ap, sym, ◌∙◌, subst}
+use Rattle.std.proofs.Common.{Some, ap, sym, ◌∙◌, subst}
 use Rattle.guest_words.specs.declared.ending.Ending.TheVariants as ending
 use Rattle.guest_words.specs.Act.{act_of}
-use Rattle.edge_ports.specs.Seen.{Seen, seen as told}
+use Rattle.edge_ports.specs.Seen.{seen as told}
 use Rattle.run_history.specs.Legal.{may_act}
 use Rattle.run_history.proofs.Entries.{legal-Exit}
 use Rattle.run_history.proofs.Under.{may_under}

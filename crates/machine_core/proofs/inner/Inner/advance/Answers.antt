@@ -1,42 +1,36 @@
-use Rattle.std.proofs.Common.{◌≡◌, ◌<◌, ◌++◌, [], ℕ, true, false, not, ◌&&◌, List, length, refl, ap, sym, ◌∙◌, subst, arith}
+use Rattle.std.proofs.Common.{◌≡◌, ◌<◌, ◌++◌, true, false, not, length, refl, ap, sym, ◌∙◌, subst, arith}
 use Rattle.std.proofs.lemmas.Bool.{and_from}
 use Rattle.guest_words.specs.Act.{act_of}
 use Rattle.guest_words.specs.Endings.{is_budget_spent}
 use Rattle.guest_words.specs.State.{State, frames_at}
 use Rattle.edge_ports.specs.Seen.{Seen}
-use Rattle.run_history.specs.declared.entry.Entry.{Entry}
 use Rattle.run_history.specs.After.{next, ran}
 use Rattle.run_history.specs.LastEntry.{with_acts}
-use Rattle.run_history.specs.Legal.{can_go, can_run, is_ordinary}
+use Rattle.run_history.specs.Legal.{can_run, is_ordinary}
 use Rattle.run_history.proofs.RunSteps.{can_run-one, ran-none, ran-one}
-use Rattle.hart_step.specs.Live.{Live, space_of}
-use Rattle.hart_step.specs.Sees.{is_ordinary_act}
 use Rattle.open_calls.specs.Nest.{Stack}
 use Rattle.machine_core.specs.Inner.{Inner, IsGoing, inner_of}
 use Rattle.machine_core.specs.OpenSteps.{StaysOpen}
 use Rattle.machine_core.specs.Under.{Goes}
 use Rattle.machine_core.proofs.Asking.{acts_goes, acts_hold, acts_records}
 use Rattle.machine_core.proofs.Holding.{Puts}
-use Rattle.machine_core.proofs.Making.{lead, made, sees_ordinary, spares}
+use Rattle.machine_core.proofs.Making.{made, sees_ordinary}
 use Rattle.machine_core.proofs.inner.Inner.advance.Given as given
 use Rattle.machine_core.proofs.inner.Inner.advance.Goals as goal
 
 abbrev w : (g : given.Over) (c : goal.After-put_run g) → Inner
-w g c = inner_of c.self.inside.engine c.self.inside.calls c.self.inside.abandoned
+w g c = inner_of c.self.inside.engine c.self.inside.calls c.self.inside.log c.self.inside.abandoned
 
 abbrev v : (g : given.Over) (c : goal.After-put_run g) → Inner
-v g c = inner_of c.advance.new.self c.put_run.new.self c.self.inside.abandoned
+v g c = inner_of c.advance.new.self c.put_run.new.self c.advance.new.log c.self.inside.abandoned
 
-puts_it : (g : given.Over) (c : goal.After-put_run g) → Puts (with_acts c.self.inside.calls.hart 1) (w g c) (v g c)
+puts_it : (g : given.Over) (c : goal.After-put_run g) → Puts (with_acts c.self.inside.calls.hart 1) (w g c) (v g c) c.self.inside.log c.advance.new.log
 puts_it g c =
-    let none = c.make_room.ensures.same ∙ c.self.invariant.none in
     let notes = c.in_ok-advance.ensures.notes in
-    made c.self.inside.engine c.advance.new.self c.self.inside.calls c.make_room.new.calls c.close_to.new.self c.put_run.new.self c.self.inside.abandoned
-    c.hart-hart.result c.close_to.new.self.hart c.frame_count.result (λ k es. with_acts k 1 es) c.advance.new.log.notes
+    made c.self.inside.engine c.advance.new.self c.self.inside.calls c.make_room.new.calls c.close_to.new.self c.put_run.new.self c.self.inside.log c.advance.new.log c.self.inside.abandoned
+    c.hart-hart.result c.close_to.new.self.hart c.frame_count.result (λ k es. with_acts k 1 es) notes.more
     c.make_room.ensures.nest c.make_room.ensures.hart c.hart-hart.ensures.value (ap (λ (x : Stack). x.hart) c.close_to.ensures.same ∙ c.make_room.ensures.hart) c.frame_count.ensures.value c.close_to.ensures.same
-    c.put_run.ensures.nest c.put_run.ensures.hart
-    (λ some. lead true c.make_room.new.pending.notes c.advance.new.log.notes (space_of c.self.inside.engine) (space_of c.advance.new.self) none notes refl)
-    (spares true c.make_room.new.pending.notes c.advance.new.log.notes (space_of c.self.inside.engine) (space_of c.advance.new.self) none notes)
+    c.put_run.ensures.nest c.put_run.ensures.hart (notes.behind ∙ ap (λ ns. ns ++ notes.more) c.make_room.ensures.same) (λ some. notes.lead refl) notes.spare
 
 going : (g : given.Over) (c : goal.After-put_run g) → IsGoing (w g c)
 going g c = c.self.invariant.called (subst (λ (x : Inner). 0 < length x.nest.outers) (sym c.self.view_is) c.requires.called)
@@ -64,14 +58,14 @@ stays g c = λ fewer less.
 
 pub invariant_of-self-2 : goal.invariant_of-self-2
 invariant_of-self-2 g c =
-    acts_hold g.K.Origin.state g.K.Origin.devices (w g c) (v g c) c.self.inside.pending c.put_run.new.log c.self.invariant (going g c) (fresh g c) 1 (omega arith) (goes g c) (to g c) (puts_it g c) c.put_run.ensures.none
+    acts_hold g.K.Origin.state g.K.Origin.devices (w g c) (v g c) c.self.inside.log c.advance.new.log c.self.invariant (going g c) (fresh g c) 1 (omega arith) (goes g c) (to g c) (puts_it g c)
 
 pub returns-clause-ok : goal.returns-clause-ok
 returns-clause-ok g c =
     subst (λ (x : Inner). (d : Seen) → Goes g.K.Origin.state x d (v g c) d) c.self.view_is
-    (acts_goes g.K.Origin.state g.K.Origin.devices (w g c) (v g c) c.self.inside.pending c.put_run.new.log c.self.invariant (going g c) (fresh g c) 1 (omega arith) (goes g c) (to g c) (puts_it g c) (stays g c))
+    (acts_goes g.K.Origin.state g.K.Origin.devices (w g c) (v g c) c.self.inside.log c.advance.new.log c.self.invariant (going g c) (fresh g c) 1 (omega arith) (goes g c) (to g c) (puts_it g c) (stays g c))
 
 pub returns-clause-records : goal.returns-clause-records
 returns-clause-records g c =
     subst (λ (x : Inner). (v g c).live.state.records ≡ x.live.state.records) c.self.view_is
-    (acts_records g.K.Origin.state g.K.Origin.devices (w g c) (v g c) c.self.inside.pending c.put_run.new.log c.self.invariant (going g c) (fresh g c) 1 (omega arith) (goes g c) (to g c) (puts_it g c))
+    (acts_records g.K.Origin.state g.K.Origin.devices (w g c) (v g c) c.self.inside.log c.advance.new.log c.self.invariant (going g c) (fresh g c) 1 (omega arith) (goes g c) (to g c) (puts_it g c))

@@ -1,4 +1,4 @@
-use Rattle.std.proofs.Common.{◌≡◌, ◌+◌, ◌<◌, length, arith, ap, sym, ◌∙◌, subst}
+use Rattle.std.proofs.Common.{◌≡◌, ◌+◌, ◌<◌, length, arith, ap, sym, subst}
 use Rattle.machine_core.specs.Inner.{Inner, IsGoing, inner_of, whole_in}
 use Rattle.machine_core.specs.QuietSteps.{HasArrived, stepped_of}
 use Rattle.edge_ports.specs.Seen.{Seen}
@@ -14,10 +14,10 @@ use Rattle.machine_core.proofs.inner.Inner.begin.Goals as goal
 
 pub enter-requires-clause-going : goal.enter-requires-clause-going
 enter-requires-clause-going g c =
-    let w = inner_of c.self.inside.engine c.self.inside.calls c.self.inside.abandoned in
+    let w = inner_of c.self.inside.engine c.self.inside.calls c.self.inside.log c.self.inside.abandoned in
     let can = subst CanTurn (sym c.self.view_is) c.requires.can in
     let arrived = subst (λ (x : Inner). HasArrived (stepped_of x.live.state x.hart)) (sym c.self.view_is) c.requires.arrived in
-    subst IsGoing c.self.view_is (turn_going g.K.Origin.state g.K.Origin.devices w c.self.inside.pending c.self.invariant can (arrived_ready w.live.state w.hart arrived).1)
+    subst IsGoing c.self.view_is (turn_going g.K.Origin.state g.K.Origin.devices w c.self.inside.log c.self.invariant can (arrived_ready w.live.state w.hart arrived).1)
 
 pub returns-clause-ok : goal.returns-clause-ok
 returns-clause-ok g c =

@@ -10,7 +10,7 @@ use Rattle.machine_core.proofs.inner.Inner.commit.Goals as goal
 
 pub put_stretch-requires-clause-stretch : goal.put_stretch-requires-clause-stretch
 put_stretch-requires-clause-stretch g c =
-    let w = inner_of c.self.inside.engine c.self.inside.calls c.self.inside.abandoned in
+    let w = inner_of c.self.inside.engine c.self.inside.calls c.self.inside.log c.self.inside.abandoned in
     let can = subst CanTurn (sym c.self.view_is) c.requires.can in
     let same = c.is_same.ensures.yes c.if-not-is_same.false in
     let at : hart_in w.live.state w.hart ≡ Some c.args.base = ap (λ (x : Inner). hart_in x.live.state x.hart) c.self.view_is ∙ ap (hart_in c.args.self.now.live.state) (sym c.hart.ensures.value) ∙ c.hart_in-kept.ensures.value ∙ ap Some same in
@@ -19,7 +19,7 @@ put_stretch-requires-clause-stretch g c =
     let enough = c.if-left-from.false in
     let room : c.args.count ≤ steps_left w.live.state = omega (arith, left, wide, enough) in
     subst (λ (x : Inner). (base : Hart) × IsStretch x.live.state x.hart base c.args.after c.args.count) c.self.view_is
-    (c.args.base, is_stretch g.K.Origin.state g.K.Origin.devices w c.self.inside.pending c.self.invariant can c.args.base c.args.after c.args.count at c.requires.ready c.requires.stretch room)
+    (c.args.base, is_stretch g.K.Origin.state g.K.Origin.devices w c.self.inside.log c.self.invariant can c.args.base c.args.after c.args.count at c.requires.ready c.requires.stretch room)
 
 pub returns-in-Ok-clause-commits : goal.returns-in-Ok-clause-commits
 returns-in-Ok-clause-commits g c = λ d.

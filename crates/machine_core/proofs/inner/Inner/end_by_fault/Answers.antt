@@ -1,4 +1,4 @@
-use Rattle.std.proofs.Common.{◌≡◌, Some, true, option_map, slice_get, refl, ap, sym, ◌∙◌, subst, eq-eqb}
+use Rattle.std.proofs.Common.{◌≡◌, Some, option_map, slice_get, refl, ap, sym, ◌∙◌, eq-eqb}
 use Rattle.guest_words.specs.declared.hart.Hart.{Hart}
 use Rattle.guest_words.specs.declared.ending.Ending.TheVariants as ending
 use Rattle.guest_words.specs.Endings.{stands_at}
@@ -11,7 +11,6 @@ use Rattle.run_history.proofs.Quietness.{alone_quiet}
 use Rattle.run_history.proofs.Under.{may_under}
 use Rattle.machine_core.specs.declared.stepped.Stepped.TheVariants.{Ended as Over}
 use Rattle.machine_core.specs.Inner.{Inner}
-use Rattle.machine_core.specs.QuietSteps.{stepped_of}
 use Rattle.machine_core.proofs.Turning.{fault_act, hart_is, ready_slot, stepped_fault}
 use Rattle.std.proofs.Common.{length}
 use Rattle.machine_core.proofs.inner.Inner.end_by_fault.Goals as goal

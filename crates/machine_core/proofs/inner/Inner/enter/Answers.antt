@@ -13,7 +13,7 @@ use Rattle.edge_ports.specs.Seen.{Seen}
 use Rattle.run_history.specs.Ahead.{ahead}
 use Rattle.run_history.proofs.Arrivals.{act_arrives}
 use Rattle.hart_step.specs.Live.{Live}
-use Rattle.open_calls.specs.Nest.{Nest, Stack, opened}
+use Rattle.open_calls.specs.Nest.{Nest, opened}
 use Rattle.machine_core.specs.Inner.{Inner, IsGoing, inner_of, whole_in}
 use Rattle.machine_core.specs.OpenSteps.{EntersAt}
 use Rattle.machine_core.proofs.Opening.{entered_records, enters, enters_hold, enters_nearer}
@@ -41,14 +41,14 @@ open-requires-clause-few g c =
     let arrives : act_of s c.self.inside.calls.hart ≡ Arrival c.args.point = subst (λ (x : Inner). act_of x.live.state x.hart ≡ Arrival c.args.point) (sym c.self.view_is) c.requires.arrives in
     let few = arrival_few s c.self.inside.calls.hart c.args.point arrives in
     let level = going.framed in
-    let same = ap (λ (s : Stack). length s.nest.outers) c.in_ok-part.ensures.same ∙ ap (λ (n : Nest). length n.outers) c.make_room.ensures.nest in
+    let same = ap (λ (n : Nest). length n.outers) c.make_room.ensures.nest in
     omega (arith, few, level, same)
 
 abbrev w : (g : given.Over) (c : goal.After-open g) → Inner
-w g c = inner_of c.self.inside.engine c.self.inside.calls c.self.inside.abandoned
+w g c = inner_of c.self.inside.engine c.self.inside.calls c.self.inside.log c.self.inside.abandoned
 
 abbrev v : (g : given.Over) (c : goal.After-open g) → Inner
-v g c = inner_of c.enter.new.self c.open.new.self c.self.inside.abandoned
+v g c = inner_of c.enter.new.self c.open.new.self c.make_room.new.log c.self.inside.abandoned
 
 going : (g : given.Over) (c : goal.After-open g) → IsGoing (w g c)
 going g c = subst IsGoing (sym c.self.view_is) c.requires.going
@@ -62,23 +62,23 @@ arrives g c = ap (λ (x : Inner). act_of x.live.state x.hart) c.self.view_is ∙
 live : (g : given.Over) (c : goal.After-open g) → (v g c).live ≡ record (w g c).live { state = enter (w g c).live.state (w g c).hart c.args.point }
 live g c = c.in_ok-enter.ensures.ok ∙ (λ i. record c.self.inside.engine { state = enter c.self.inside.engine.state (c.hart-hart.ensures.value i) c.args.point })
 
-nest : (g : given.Over) (c : goal.After-open g) → (v g c).nest ≡ opened c.args.point c.in_ok-kept.kept (w g c).nest
-nest g c = c.open.ensures.nest ∙ ap (opened c.args.point c.in_ok-kept.kept) (ap (λ (s : Stack). s.nest) c.in_ok-part.ensures.same ∙ c.make_room.ensures.nest)
+nest : (g : given.Over) (c : goal.After-open g) → (v g c).nest ≡ opened c.args.point c.in_ok-kept.kept c.length-mark.result (w g c).nest
+nest g c = c.open.ensures.nest ∙ ap (opened c.args.point c.in_ok-kept.kept c.length-mark.result) c.make_room.ensures.nest
 
 hart : (g : given.Over) (c : goal.After-open g) → (v g c).hart ≡ (w g c).hart
-hart g c = c.open.ensures.hart ∙ ap (λ (s : Stack). s.hart) c.in_ok-part.ensures.same ∙ c.make_room.ensures.hart
+hart g c = c.open.ensures.hart ∙ c.make_room.ensures.hart
 
 pub invariant_of-self-2 : goal.invariant_of-self-2
 invariant_of-self-2 g c =
     let e = c.in_ok-kept.ensures in
-    enters_hold g.K.Origin.state g.K.Origin.devices (w g c) (v g c) c.self.inside.pending c.make_room.new.pending c.self.invariant (going g c) (fresh g c) c.args.point c.in_ok-kept.kept (arrives g c)
+    enters_hold g.K.Origin.state g.K.Origin.devices (w g c) (v g c) c.self.inside.log c.make_room.new.log c.self.invariant (going g c) (fresh g c) c.args.point c.in_ok-kept.kept c.length-mark.result (arrives g c)
     (live g c) (nest g c) (hart g c) refl
-    (record { harts = e.harts; queue = e.queue; next_tid = e.next_tid }) e.returns (c.make_room.ensures.same ∙ c.self.invariant.none)
+    (record { harts = e.harts; queue = e.queue; next_tid = e.next_tid }) e.returns (c.length-mark.ensures.value ∙ ap length c.make_room.ensures.same) c.make_room.ensures.same
 
 pub returns-clause-ok : goal.returns-clause-ok
 returns-clause-ok g c =
     subst (λ (x : Inner). (d : Seen) → EntersAt x.hart c.args.point (whole_in x d) (whole_in (v g c) d)) c.self.view_is
-    (enters g.K.Origin.state g.K.Origin.devices (w g c) (v g c) c.self.inside.pending c.make_room.new.pending c.self.invariant (going g c) (fresh g c) c.args.point c.in_ok-kept.kept (arrives g c)
+    (enters g.K.Origin.state g.K.Origin.devices (w g c) (v g c) c.self.inside.log c.make_room.new.log c.self.invariant (going g c) (fresh g c) c.args.point c.in_ok-kept.kept c.length-mark.result (arrives g c)
     (live g c) (nest g c) (hart g c) refl)
 
 pub returns-clause-records : goal.returns-clause-records
@@ -89,12 +89,12 @@ returns-clause-records g c =
 pub returns-clause-nearer : goal.returns-clause-nearer
 returns-clause-nearer g c =
     subst (λ (x : Inner). ahead (v g c).live.state x.hart < ahead x.live.state x.hart) c.self.view_is
-    (enters_nearer g.K.Origin.state g.K.Origin.devices (w g c) (v g c) c.self.inside.pending c.make_room.new.pending c.self.invariant (going g c) (fresh g c) c.args.point c.in_ok-kept.kept (arrives g c)
+    (enters_nearer g.K.Origin.state g.K.Origin.devices (w g c) (v g c) c.self.inside.log c.make_room.new.log c.self.invariant (going g c) (fresh g c) c.args.point c.in_ok-kept.kept c.length-mark.result (arrives g c)
     (live g c) (nest g c) (hart g c) refl)
 
 pub returns-clause-going : goal.returns-clause-going
 returns-clause-going g c =
     let e = c.in_ok-kept.ensures in
-    (enters_hold g.K.Origin.state g.K.Origin.devices (w g c) (v g c) c.self.inside.pending c.make_room.new.pending c.self.invariant (going g c) (fresh g c) c.args.point c.in_ok-kept.kept (arrives g c)
+    (enters_hold g.K.Origin.state g.K.Origin.devices (w g c) (v g c) c.self.inside.log c.make_room.new.log c.self.invariant (going g c) (fresh g c) c.args.point c.in_ok-kept.kept c.length-mark.result (arrives g c)
     (live g c) (nest g c) (hart g c) refl
-    (record { harts = e.harts; queue = e.queue; next_tid = e.next_tid }) e.returns (c.make_room.ensures.same ∙ c.self.invariant.none)).called (let depth = ap (λ (n : Nest). length n.outers) (nest g c) in omega (arith, depth))
+    (record { harts = e.harts; queue = e.queue; next_tid = e.next_tid }) e.returns (c.length-mark.ensures.value ∙ ap length c.make_room.ensures.same) c.make_room.ensures.same).called (let depth = ap (λ (n : Nest). length n.outers) (nest g c) in omega (arith, depth))

@@ -1,4 +1,4 @@
-use Rattle.std.proofs.Common.{◌≡◌, ◌<◌, length, ap, sym, ◌∙◌, subst}
+use Rattle.std.proofs.Common.{◌<◌, length, ap, sym, ◌∙◌, subst}
 use Rattle.guest_words.specs.declared.ending.Ending.TheVariants as ending
 use Rattle.guest_words.specs.Endings.{is_budget_spent}
 use Rattle.edge_ports.specs.Seen.{Seen, seen as told, spare}

@@ -7,7 +7,7 @@ use Rattle.machine_core.proofs.inner.Inner.hart_in.Goals as goal
 
 pub unreachable-requires : goal.unreachable-requires
 unreachable-requires g c =
-    let w = inner_of c.self.inside.engine c.self.inside.calls c.self.inside.abandoned in
-    let slots = slots_stay g.K.Origin.state g.K.Origin.devices w c.self.inside.pending c.self.invariant in
+    let w = inner_of c.self.inside.engine c.self.inside.calls c.self.inside.log c.self.inside.abandoned in
+    let slots = slots_stay g.K.Origin.state g.K.Origin.devices w c.self.inside.log c.self.invariant in
     let few = c.requires.slot in
     no_slot w.live.state.slots c.args.slot (omega (arith, slots, few)) (ap option_copied (sym c.in-None.is) ∙ c.hart.ensures.value)

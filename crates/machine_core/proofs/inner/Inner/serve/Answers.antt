@@ -1,21 +1,18 @@
-use Rattle.std.proofs.Common.{◌≡◌, ◌≤◌, ◌<◌, ◌∷◌, ◌++◌, [], ℕ, true, false, nat_lt, List, length, refl, ap, sym, ◌∙◌, subst, arith}
-use Rattle.guest_words.specs.Act.{Request, StateAct, act_of, fits}
+use Rattle.std.proofs.Common.{◌≡◌, ◌≤◌, ◌<◌, ◌∷◌, ◌++◌, [], true, false, length, ap, sym, ◌∙◌, subst, arith}
+use Rattle.guest_words.specs.Act.{Request, act_of, fits}
 use Rattle.guest_words.specs.Endings.{is_budget_spent}
-use Rattle.guest_words.specs.State.{State}
 use Rattle.edge_ports.specs.Seen.{Seen, seen as told, spare}
-use Rattle.run_history.specs.declared.entry.Entry.{Entry, Called}
+use Rattle.run_history.specs.declared.entry.Entry.{Called}
 use Rattle.run_history.proofs.Requests.{fits_short, request_servable}
 use Rattle.run_history.specs.After.{called}
 use Rattle.run_history.specs.Ahead.{ahead}
-use Rattle.hart_step.specs.Live.{space_of}
-use Rattle.open_calls.specs.Nest.{Stack}
 use Rattle.machine_core.specs.Inner.{Inner, IsGoing, IsUnderSame, inner_of, whole_in}
 use Rattle.machine_core.specs.Kept.{HasDevices}
 use Rattle.machine_core.specs.QuietSteps.{CallsOn}
 use Rattle.machine_core.proofs.Asking.{asks, asks_devices, asks_hold, asks_nearer, holds_open}
 use Rattle.machine_core.proofs.Calls.{can_serve}
 use Rattle.machine_core.proofs.Holding.{Puts, puts_none, puts_under}
-use Rattle.machine_core.proofs.Making.{few_notes, lead, made, some_calls, spares}
+use Rattle.machine_core.proofs.Making.{made, some_calls}
 use Rattle.machine_core.proofs.inner.Inner.serve.Given as given
 use Rattle.machine_core.proofs.inner.Inner.serve.Goals as goal
 
@@ -28,7 +25,7 @@ call_device-requires-clause-can g c =
     let k = c.args.ask in
     let asks : act_of s c.self.inside.calls.hart ≡ Request k.way k.port k.asked k.place = subst (λ (w : Inner). act_of w.live.state w.hart ≡ Request k.way k.port k.asked k.place) (sym c.self.view_is) c.requires.asks in
     can_serve k.way k.port k.asked k.place s (d g c)
-    (holds_open g.K.Origin.state g.K.Origin.devices (d g c) (inner_of c.self.inside.engine c.self.inside.calls c.self.inside.abandoned) c.self.inside.pending (spare c.args.devices.now) c.self.invariant
+    (holds_open g.K.Origin.state g.K.Origin.devices (d g c) (inner_of c.self.inside.engine c.self.inside.calls c.self.inside.log c.self.inside.abandoned) c.self.inside.log (spare c.args.devices.now) c.self.invariant
     (subst (λ (w : Inner). HasDevices g.K.Origin.devices w (d g c) (spare c.args.devices.now)) (sym c.self.view_is) c.requires.devices))
     (request_servable s c.self.inside.calls.hart k.way k.port k.asked k.place asks)
 
@@ -45,30 +42,20 @@ answer-requires-clause-room g c = λ noted.
     let room = c.in_ok-make_room.ensures.spare in
     omega (arith, few, some, room)
 
-pub append-requires-clause-notes : goal.append-requires-clause-notes
-append-requires-clause-notes g c =
-    let same = ap (λ (x : Stack). x.notes) c.close_to.ensures.same in
-    let fits = few_notes (nat_lt 0 c.depth-noted.result) c.make_room.new.pending.notes c.answer.new.log.notes (space_of c.self.inside.engine) (space_of c.answer.new.self)
-    (length c.in_ok-call.call.bytes) c.args.ask.asked c.notes_of.result c.make_room.new.calls.notes
-    (c.make_room.ensures.same ∙ c.self.invariant.none) c.answer.ensures.notes c.answer.ensures.few (fits_short c.self.inside.engine.state c.args.ask.way c.args.ask.port c.args.ask.asked c.args.ask.place c.in_ok-call.call c.in_ok-call.ensures.fits) c.notes_of.ensures.some c.in_ok-make_room.ensures.notes in
-    omega (arith, same, fits)
-
 abbrev w : (g : given.Over) (c : goal.After-append g) → Inner
-w g c = inner_of c.self.inside.engine c.self.inside.calls c.self.inside.abandoned
+w g c = inner_of c.self.inside.engine c.self.inside.calls c.self.inside.log c.self.inside.abandoned
 
 abbrev v : (g : given.Over) (c : goal.After-append g) → Inner
-v g c = inner_of c.answer.new.self c.append.new.self c.self.inside.abandoned
+v g c = inner_of c.answer.new.self c.append.new.self c.answer.new.log c.self.inside.abandoned
 
-puts_it : (g : given.Over) (c : goal.After-append g) → Puts (λ es. es ++ Called c.self.inside.calls.hart c.in_ok-call.call ∷ []) (w g c) (v g c)
+puts_it : (g : given.Over) (c : goal.After-append g) → Puts (λ es. es ++ Called c.self.inside.calls.hart c.in_ok-call.call ∷ []) (w g c) (v g c) c.self.inside.log c.answer.new.log
 puts_it g c =
-    let none = c.make_room.ensures.same ∙ c.self.invariant.none in
-    made c.self.inside.engine c.answer.new.self c.self.inside.calls c.make_room.new.calls c.close_to.new.self c.append.new.self c.self.inside.abandoned
-    c.hart-hart.result c.hart-hart.result c.frame_count.result (λ k es. es ++ Called k c.in_ok-call.call ∷ []) c.answer.new.log.notes
+    let notes = c.answer.ensures.notes in
+    made c.self.inside.engine c.answer.new.self c.self.inside.calls c.make_room.new.calls c.close_to.new.self c.append.new.self c.self.inside.log c.answer.new.log c.self.inside.abandoned
+    c.hart-hart.result c.hart-hart.result c.frame_count.result (λ k es. es ++ Called k c.in_ok-call.call ∷ []) notes.more
     c.make_room.ensures.nest c.make_room.ensures.hart c.hart-hart.ensures.value c.hart-hart.ensures.value c.frame_count.ensures.value c.close_to.ensures.same
-    c.append.ensures.nest c.append.ensures.hart
-    (λ some. lead (nat_lt 0 c.depth-noted.result) c.make_room.new.pending.notes c.answer.new.log.notes (space_of c.self.inside.engine) (space_of c.answer.new.self) none c.answer.ensures.notes
-    (some_calls c.depth-noted.result c.self.inside.calls.nest c.depth-noted.ensures.value some))
-    (spares (nat_lt 0 c.depth-noted.result) c.make_room.new.pending.notes c.answer.new.log.notes (space_of c.self.inside.engine) (space_of c.answer.new.self) none c.answer.ensures.notes)
+    c.append.ensures.nest c.append.ensures.hart (notes.behind ∙ ap (λ ns. ns ++ notes.more) c.make_room.ensures.same)
+    (λ some. notes.lead (some_calls c.depth-noted.result c.self.inside.calls.nest c.depth-noted.ensures.value some)) notes.spare
 
 going : (g : given.Over) (c : goal.After-append g) → IsGoing (w g c)
 going g c = subst IsGoing (sym c.self.view_is) c.requires.going
@@ -87,32 +74,32 @@ to g c = c.answer.ensures.after ∙ ap (λ h. called c.self.inside.engine.state 
 
 pub invariant_of-self-2 : goal.invariant_of-self-2
 invariant_of-self-2 g c =
-    asks_hold g.K.Origin.state g.K.Origin.devices (w g c) (v g c) c.self.inside.pending c.append.new.log c.self.invariant (going g c) (fresh g c) c.in_ok-call.call (fits_it g c) (to g c) (puts_it g c) c.append.ensures.none
+    asks_hold g.K.Origin.state g.K.Origin.devices (w g c) (v g c) c.self.inside.log c.answer.new.log c.self.invariant (going g c) (fresh g c) c.in_ok-call.call (fits_it g c) (to g c) (puts_it g c)
 
 pub returns-clause-ok : goal.returns-clause-ok
 returns-clause-ok g c =
     let e = told g.S.Source.end g.T.Sink.end g.P.Port.end c.call_device.new.devices in
     subst (λ (x : Inner). CallsOn x.hart (whole_in x (told g.S.Source.end g.T.Sink.end g.P.Port.end c.args.devices.now)) (whole_in (v g c) e)) c.self.view_is
-    (asks g.K.Origin.state g.K.Origin.devices (w g c) (v g c) c.self.inside.pending c.append.new.log c.self.invariant (going g c) (fresh g c) c.in_ok-call.call (fits_it g c) (to g c) (puts_it g c)
+    (asks g.K.Origin.state g.K.Origin.devices (w g c) (v g c) c.self.inside.log c.answer.new.log c.self.invariant (going g c) (fresh g c) c.in_ok-call.call (fits_it g c) (to g c) (puts_it g c)
     (told g.S.Source.end g.T.Sink.end g.P.Port.end c.args.devices.now) e c.in_ok-call.ensures.serves)
 
 pub returns-clause-under : goal.returns-clause-under
 returns-clause-under g c =
-    subst (λ (x : Inner). IsUnderSame x (v g c)) c.self.view_is (puts_under (λ es. es ++ Called c.self.inside.calls.hart c.in_ok-call.call ∷ []) (w g c) (v g c) (puts_it g c))
+    subst (λ (x : Inner). IsUnderSame x (v g c)) c.self.view_is (puts_under (λ es. es ++ Called c.self.inside.calls.hart c.in_ok-call.call ∷ []) (w g c) (v g c) c.self.inside.log c.answer.new.log (puts_it g c))
 
 pub returns-clause-devices : goal.returns-clause-devices
 returns-clause-devices g c =
     let old = told g.S.Source.end g.T.Sink.end g.P.Port.end c.args.devices.now in
     let e = told g.S.Source.end g.T.Sink.end g.P.Port.end c.call_device.new.devices in
-    asks_devices g.K.Origin.state g.K.Origin.devices (w g c) (v g c) c.self.inside.pending c.append.new.log c.self.invariant (going g c) (fresh g c) c.in_ok-call.call (fits_it g c) (to g c) (puts_it g c)
+    asks_devices g.K.Origin.state g.K.Origin.devices (w g c) (v g c) c.self.inside.log c.answer.new.log c.self.invariant (going g c) (fresh g c) c.in_ok-call.call (fits_it g c) (to g c) (puts_it g c)
     old e (spare c.args.devices.now) (spare c.call_device.new.devices)
     (subst (λ (x : Inner). HasDevices g.K.Origin.devices x old (spare c.args.devices.now)) (sym c.self.view_is) c.requires.devices) c.in_ok-call.ensures.serves c.call_device.ensures.spare
 
 pub returns-clause-nearer : goal.returns-clause-nearer
 returns-clause-nearer g c =
     subst (λ (x : Inner). ahead (v g c).live.state x.hart < ahead x.live.state x.hart) c.self.view_is
-    (asks_nearer g.K.Origin.state g.K.Origin.devices (w g c) (v g c) c.self.inside.pending c.append.new.log c.self.invariant (going g c) (fresh g c) c.in_ok-call.call (fits_it g c) (to g c) (puts_it g c))
+    (asks_nearer g.K.Origin.state g.K.Origin.devices (w g c) (v g c) c.self.inside.log c.answer.new.log c.self.invariant (going g c) (fresh g c) c.in_ok-call.call (fits_it g c) (to g c) (puts_it g c))
 
 pub returns-clause-none : goal.returns-clause-none
 returns-clause-none g c = λ none.
-    puts_none (λ es. es ++ Called c.self.inside.calls.hart c.in_ok-call.call ∷ []) (w g c) (v g c) (puts_it g c) (ap (λ (x : Inner). x.nest.outers) c.self.view_is ∙ none)
+    puts_none (λ es. es ++ Called c.self.inside.calls.hart c.in_ok-call.call ∷ []) (w g c) (v g c) c.self.inside.log c.answer.new.log (puts_it g c) (ap (λ (x : Inner). x.nest.outers) c.self.view_is ∙ none)

@@ -1,4 +1,4 @@
-use Rattle.std.proofs.Common.{◌≡◌, ◌<◌, None, length, option_map, slice_get, ap, sym, ◌∙◌, subst}
+use Rattle.std.proofs.Common.{◌<◌, length, option_map, slice_get, ap, sym, ◌∙◌, subst}
 use Rattle.std.specs.Option.{option_copied}
 use Rattle.guest_words.specs.Endings.{is_budget_spent, is_stuck}
 use Rattle.hart_slots.specs.Rejoined.{hart_of}

@@ -1,19 +1,17 @@
-use Rattle.std.proofs.Common.{◌≡◌, ◌<◌, true, length, refl, ap, sym, ◌∙◌, subst}
+use Rattle.std.proofs.Common.{◌<◌, ap, ◌∙◌, subst}
 use Rattle.guest_words.specs.declared.ending.Ending.TheVariants as ending
-use Rattle.guest_words.specs.Act.{End, StateAct, act_of}
+use Rattle.guest_words.specs.Act.{act_of}
 use Rattle.edge_ports.specs.Seen.{Seen, seen as told, spare}
 use Rattle.run_history.specs.Ahead.{ahead}
 use Rattle.run_history.specs.Legal.{may_act}
 use Rattle.run_history.proofs.Entries.{legal-Exit}
 use Rattle.run_history.proofs.Under.{may_under}
 use Rattle.hart_step.specs.declared.next_act.NextAct.{NextAct}
-use Rattle.hart_step.specs.declared.next_act.NextAct.TheVariants as next_act
-use Rattle.hart_step.specs.Sees.{Sees, named}
+use Rattle.hart_step.specs.Sees.{Sees}
 use Rattle.machine_core.specs.Inner.{Inner, whole_in}
 use Rattle.machine_core.specs.OpenSteps.{EntersAt}
 use Rattle.machine_core.specs.QuietSteps.{CallsOn, EndsBy}
-use Rattle.machine_core.specs.Under.{Goes, IsWanting}
-use Rattle.machine_core.proofs.Making.{on_err, on_ok}
+use Rattle.machine_core.specs.Under.{Goes}
 use Rattle.machine_core.proofs.Steps.{arrival_goes, both_ok, by_records, end_act, end_goes, request_goes}
 use Rattle.machine_core.proofs.inner.Inner.turn.Goals as goal
 

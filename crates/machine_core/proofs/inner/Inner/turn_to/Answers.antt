@@ -7,6 +7,6 @@ use Rattle.machine_core.proofs.inner.Inner.turn_to.Goals as goal
 
 pub returns-clause-told : goal.returns-clause-told
 returns-clause-told g c =
-    let w = inner_of c.self.inside.engine c.self.inside.calls c.self.inside.abandoned in
+    let w = inner_of c.self.inside.engine c.self.inside.calls c.self.inside.log c.self.inside.abandoned in
     subst (λ (x : Inner). (d : Seen) → IsAsTold g.K.Origin.state (machine_in x d)) c.self.view_is
-    (as_told g.K.Origin.state g.K.Origin.devices w c.self.inside.pending c.self.invariant (ap (λ (x : Inner). x.nest.outers) c.self.view_is ∙ c.requires.none))
+    (as_told g.K.Origin.state g.K.Origin.devices w c.self.inside.log c.self.invariant (ap (λ (x : Inner). x.nest.outers) c.self.view_is ∙ c.requires.none))

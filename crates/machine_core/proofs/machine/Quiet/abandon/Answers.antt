@@ -2,7 +2,6 @@ use Rattle.std.proofs.Common.{true, ap, ◌∙◌}
 use Rattle.edge_ports.specs.Seen.{seen as told}
 use Rattle.open_calls.specs.Nest.{flat_from}
 use Rattle.machine_core.specs.Inner.{machine_in}
-use Rattle.machine_core.specs.Machine.{Machine}
 use Rattle.machine_core.specs.OpenSteps.{abandoned_of}
 use Rattle.machine_core.proofs.machine.Quiet.abandon.Goals as goal
 

@@ -1,4 +1,4 @@
-use Rattle.std.proofs.Common.{◌≡◌, [], ap, sym, subst}
+use Rattle.std.proofs.Common.{◌≡◌, [], subst}
 use Rattle.edge_ports.specs.Seen.{Seen, seen as told}
 use Rattle.machine_core.specs.Inner.{machine_in}
 use Rattle.machine_core.specs.Machine.{IsAsTold, Machine}

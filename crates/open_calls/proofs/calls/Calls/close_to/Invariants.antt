@@ -8,7 +8,6 @@ invariant-loop-self l = record {
   nest : closed_to l.fn.self.hart l.keep l.self.nest ≡ closed_to l.fn.self.hart l.keep l.fn.self.nest;
   hart : l.self.hart ≡ l.fn.self.hart;
   acts : l.self.acts ≡ l.fn.self.acts;
-  notes : l.self.notes ≡ l.fn.self.notes;
 }
 
 abbrev pub decreases-loop-self : goal.decreases-loop-self

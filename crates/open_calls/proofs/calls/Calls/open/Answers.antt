@@ -1,5 +1,5 @@
-use Rattle.std.proofs.Common.{◌<◌, ◌++◌, ◌∷◌, [], length, ap, sym, ◌∙◌, subst, arith}
-use Rattle.open_calls.specs.declared.part.Part.{Part}
+use Rattle.std.proofs.Common.{◌++◌, ◌∷◌, [], length, ap, sym, ◌∙◌, subst, arith}
+use Rattle.run_history.specs.HistoryView.{HistoryView}
 use Rattle.open_calls.specs.declared.outer.Outer.{Outer}
 use Rattle.open_calls.specs.Nest.{Stack, opened}
 use Rattle.open_calls.specs.Rooms.{turned, Rooms, nest_of}
@@ -17,21 +17,19 @@ push_reserved-requires c =
 
 pub invariant_of-self : goal.invariant_of-self
 invariant_of-self c =
-    let o : Outer = record { part = c.replace-part.result; point = c.args.point; kept = c.args.kept } in
+    let o : Outer = record { entries = c.replace-entries.result; mark = c.args.mark; point = c.args.point; kept = c.args.kept } in
     let acts = c.one_less-self-inside.result in
-    let notes = c.min-self-inside.result in
-    let least = c.min-self-inside.ensures in
     let places = c.self.invariant.1 in
     let capacity = c.push_reserved.ensures.capacity in (
-      subst (λ os. Rooms acts notes c.replace-part.new.dest (turned os)) (sym c.push_reserved.ensures.items)
-          (subst (λ (p : Part). Rooms acts notes p (turned (c.self.inside.outers.items ++ o ∷ []))) (sym c.replace-part.ensures.after)
-          (open_rooms c.self.inside.acts c.self.inside.notes acts notes c.self.inside.top c.args.part o c.self.inside.outers.items c.self.invariant.0 c.one_less-self-inside.ensures.less (omega (arith, least)) c.one_less-self-inside.ensures.few (omega (arith, least)) c.replace-part.ensures.value c.requires.fresh)),
+      subst (λ os. Rooms acts c.replace-entries.new.dest (turned os)) (sym c.push_reserved.ensures.items)
+          (subst (λ (p : HistoryView). Rooms acts p (turned (c.self.inside.outers.items ++ o ∷ []))) (sym c.replace-entries.ensures.after)
+          (open_rooms c.self.inside.acts acts c.self.inside.top c.args.list o c.self.inside.outers.items c.self.invariant.0 c.one_less-self-inside.ensures.less c.one_less-self-inside.ensures.few c.replace-entries.ensures.value c.requires.fresh)),
       omega (arith, places, capacity),
     )
 
 pub returns-clause-nest : goal.returns-clause-nest
 returns-clause-nest c =
-    let o : Outer = record { part = c.replace-part.result; point = c.args.point; kept = c.args.kept } in
-    ap (λ (p : Part). nest_of p c.push_reserved.new.self.items) c.replace-part.ensures.after
-    ∙ opened_nest c.self.inside.top c.args.part o c.self.inside.outers.items c.push_reserved.new.self.items c.push_reserved.ensures.items c.replace-part.ensures.value c.requires.fresh
-    ∙ ap (λ (s : Stack). opened c.args.point c.args.kept s.nest) c.self.view_is
+    let o : Outer = record { entries = c.replace-entries.result; mark = c.args.mark; point = c.args.point; kept = c.args.kept } in
+    ap (λ (p : HistoryView). nest_of p c.push_reserved.new.self.items) c.replace-entries.ensures.after
+    ∙ opened_nest c.self.inside.top c.args.list o c.self.inside.outers.items c.push_reserved.new.self.items c.push_reserved.ensures.items c.replace-entries.ensures.value c.requires.fresh
+    ∙ ap (λ (s : Stack). opened c.args.point c.args.kept c.args.mark s.nest) c.self.view_is

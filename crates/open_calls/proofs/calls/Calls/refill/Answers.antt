@@ -12,8 +12,8 @@ invariant_of-self-in_err-refill c =
     let long = turned_length c.self.inside.outers.items c.refill.new.outers old in
     let whole = c.self.inside.outers.ok.0 in
     let is = with_items_is c.self.inside.outers c.refill.new.outers (omega (arith, long, whole)) in (
-      subst (λ (xs : List Outer). Rooms c.self.inside.acts c.self.inside.notes c.make_in.new.part (turned xs)) (sym is)
-          (rooms_roomier c.self.inside.acts c.self.inside.notes c.self.inside.top c.make_in.new.part (turned c.self.inside.outers.items) (turned c.refill.new.outers) c.make_in.ensures.same old c.self.invariant.0),
+      subst (λ (xs : List Outer). Rooms c.self.inside.acts c.make_in.new.list (turned xs)) (sym is)
+          (rooms_roomier c.self.inside.acts c.self.inside.top c.make_in.new.list (turned c.self.inside.outers.items) (turned c.refill.new.outers) c.make_in.ensures.same old c.self.invariant.0),
       c.self.invariant.1,
     )
 
@@ -23,8 +23,8 @@ returns-in_err-refill-clause-nest c =
     let long = turned_length c.self.inside.outers.items c.refill.new.outers old in
     let whole = c.self.inside.outers.ok.0 in
     let is = with_items_is c.self.inside.outers c.refill.new.outers (omega (arith, long, whole)) in
-    (λ i. record { outers = levels (turned (is i)); entries = c.make_in.ensures.same.entries i; notes = c.make_in.ensures.same.notes i })
-    ∙ (λ i. record { outers = levels-roomier (turned c.self.inside.outers.items) (turned c.refill.new.outers) old i; entries = c.self.inside.top.entries.entries; notes = c.self.inside.top.log.notes })
+    (λ i. record { outers = levels (turned (is i)); entries = c.make_in.ensures.same.entries i })
+    ∙ (λ i. record { outers = levels-roomier (turned c.self.inside.outers.items) (turned c.refill.new.outers) old i; entries = c.self.inside.top.entries })
     ∙ ap (λ (s : Stack). s.nest) c.self.view_is
 
 pub returns-clause-nest : goal.returns-clause-nest
@@ -33,6 +33,6 @@ returns-clause-nest c =
     let long = turned_length c.self.inside.outers.items c.refill.new.outers old in
     let whole = c.self.inside.outers.ok.0 in
     let is = with_items_is c.self.inside.outers c.refill.new.outers (omega (arith, long, whole)) in
-    (λ i. record { outers = levels (turned (is i)); entries = c.make_in.ensures.same.entries i; notes = c.make_in.ensures.same.notes i })
-    ∙ (λ i. record { outers = levels-roomier (turned c.self.inside.outers.items) (turned c.refill.new.outers) old i; entries = c.self.inside.top.entries.entries; notes = c.self.inside.top.log.notes })
+    (λ i. record { outers = levels (turned (is i)); entries = c.make_in.ensures.same.entries i })
+    ∙ (λ i. record { outers = levels-roomier (turned c.self.inside.outers.items) (turned c.refill.new.outers) old i; entries = c.self.inside.top.entries })
     ∙ ap (λ (s : Stack). s.nest) c.self.view_is
