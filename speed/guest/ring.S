@@ -1,21 +1,12 @@
 # HARTS harts (the first one too) take turns at one futex, N rounds: whose turn it isn't waits at the word, and whose
 # turn it is makes WORK rounds of four register instructions, hands the turn on and wakes all.
+#include "clone.h"
         .globl  _start
 _start: la      s2, turn
         li      s1, 1
 1:      li      t0, HARTS
         bgeu    s1, t0, work
-        li      a0, 0x50f00         # CLONE_VM, FS, FILES, SIGHAND, THREAD, SYSVSEM
-        la      a1, stacks
-        slli    a2, s1, 12
-        add     a1, a1, a2
-        li      a2, 0
-        li      a3, 0
-        li      a4, 0
-        li      a7, 220
-        ecall
-        beqz    a0, child
-        bltz    a0, bad
+        clone   0x50f00, zero  # CLONE_VM, FS, FILES, SIGHAND, THREAD, SYSVSEM
         addi    s1, s1, 1
         j       1b
 child:  jal     ra, rounds
