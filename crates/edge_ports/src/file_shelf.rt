@@ -96,7 +96,8 @@ fn load_file<R: Files>(
     let Ok(mut file) = fs::open(files, name) else {
         return Err(ShelfFault::Failed);
     };
-    match read_up_to(alloc, &mut file, limit) {
+    let likely = length_of(&file, 0);
+    match read_up_to(alloc, &mut file, limit, likely) {
         Err(ShelfFault::TooLong { length }) => Err(ShelfFault::TooLong {
             length: length_of(&file, length),
         }),

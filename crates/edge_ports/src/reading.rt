@@ -7,12 +7,17 @@ use guest_words::Bytes;
 use std::alloc::Global;
 use std::io::Read;
 
-/// Reads all that the reader has left, at most `limit` bytes. An error of the reader is `Failed`;
-/// the length of `TooLong` is that of what was read.
+/// How many bytes are read at a time.
+const CHUNK: usize = 16_384;
+
+/// Reads all that the reader has left, at most `limit` bytes. It is likely to have so many, for
+/// which room is made at once. An error of the reader is `Failed`; the length of `TooLong` is that
+/// of what was read.
 pub(crate) fn read_up_to<I: Read>(
     alloc: Global,
     reader: &mut I,
     limit: u64,
+    likely: u64,
 ) -> Result<Bytes, ShelfFault>
     ensures all { IfOk result (Consumes (I.remaining reader.old) (I.remaining reader.new)) }
     ensures end { OnOk result (IsAtEnd (I.remaining reader.new)) }
@@ -22,8 +27,10 @@ pub(crate) fn read_up_to<I: Read>(
     ensures long { (size : ℕ) → result ≡ Err (ShelfFault.TooLong size)
         → IfSome (I.remaining reader.old) (λ left. size ≤ length left) }
 {
-    let mut bytes = Vec::new(alloc);
-    let mut chunk = [0u8; 4096];
+    let Ok(mut bytes) = Vec::with_capacity(alloc, likely.min(limit) as usize) else {
+        return Err(ShelfFault::Memory);
+    };
+    let mut chunk = [0u8; CHUNK];
     for _ in 0..u64::MAX {
         let Ok(count) = reader.read(&mut chunk) else {
             return Err(ShelfFault::Failed);
