@@ -2,6 +2,7 @@
 #![tactic(auto)]
 
 mod acts;
+mod amo;
 mod before;
 mod calls;
 mod carry;

@@ -5,10 +5,11 @@ ghost use Rattle.guest_words.specs.Instructions.{NamesRegisters};
 ghost use Rattle.guest_memory.specs.Text.{SameText};
 ghost use Rattle.hart_step.specs.InPlace.{parts, HasZero, IsDone, IsMade};
 
+use crate::amo::Amo;
 use crate::before::Before;
 use crate::did::Did;
 use crate::registers::go_past_with;
-use guest_atomics::{amo, holds, touch};
+use guest_atomics::{holds, touch};
 use guest_memory::Memory;
 use guest_pages::Recent;
 use guest_words::{Class, FaultName, Hart, Inst, Op, Reserved, Width};
@@ -121,18 +122,20 @@ fn atomic(
     if place % width.bytes() != 0 {
         return Did::Fault(FaultName::AtomicMisaligned);
     }
-    let number = match memory.read_to_write(recent, place, width) {
-        Ok(number) => number,
-        Err(name) => return Did::Fault(name),
+    let change = Amo {
+        op,
+        width,
+        operand: b,
     };
-    let value = amo(op, number, b);
-    let Ok(_) = memory.exchange(recent, place, width, value) else {
-        unreachable!();
-    };
-    go_past_with(hart, inst, whole(op, width, number));
-    touch(hart, place, width.bytes());
-    before.put(place, width, number);
-    Did::Stored
+    match memory.change(recent, place, width, &change) {
+        Ok(number) => {
+            go_past_with(hart, inst, whole(op, width, number));
+            touch(hart, place, width.bytes());
+            before.put(place, width, number);
+            Did::Stored
+        }
+        Err(name) => Did::Fault(name),
+    }
 }
 
 /// The same for 32 bits.

@@ -1,9 +1,11 @@
 -- The words of instructions (ISA manual, unprivileged, "Base Instruction Formats" and "Immediate
 -- Encoding Variants"): the bits that the row names, with the registers and the immediate in their
 -- places.
-use Rattle.std.specs.Prelude.{◌≡◌, ℕ, ◌+◌, ◌*◌, ◌≤◌, ◌%◌, ◌^◌, ℤ, Some}
+use Rattle.std.specs.Prelude.{◌≡◌, ℕ, ◌+◌, ◌*◌, ◌≤◌, ◌%◌, ◌^◌, ℤ, Bool, true, false, Some}
 use Rattle.std.specs.Int.{w32, cast_unsigned}
 use Rattle.guest_words.specs.Instructions.{bits, instruction_of}
+use Rattle.guest_words.specs.declared.class.Class.{Class}
+use Rattle.guest_words.specs.declared.class.Class.TheVariants.{LoadReserved, StoreConditional, Atomic}
 use Rattle.guest_words.specs.declared.format.Format.{Format}
 use Rattle.guest_words.specs.declared.format.Format.TheVariants.{Upper, Jump, Immediate, Branch, Store, Shift, WordShift, Register, Bare}
 use Rattle.guest_words.specs.declared.inst.Inst.{Inst}
@@ -66,6 +68,43 @@ room_of Shift = 0x03ff8f80
 room_of WordShift = 0x01ff8f80
 room_of Register = 0x01ff8f80
 room_of Bare = 0
+
+-- an instruction of the base on words of 32 bits
+abbrev pub is_word : Op → Bool
+is_word Addiw = true
+is_word Slliw = true
+is_word Srliw = true
+is_word Sraiw = true
+is_word Addw = true
+is_word Sllw = true
+is_word Srlw = true
+is_word Subw = true
+is_word Sraw = true
+is_word op = false
+
+-- an instruction of the extension for multiplication (M)
+abbrev pub is_multiply : Op → Bool
+is_multiply Mul = true
+is_multiply Mulh = true
+is_multiply Mulhsu = true
+is_multiply Mulhu = true
+is_multiply Div = true
+is_multiply Divu = true
+is_multiply Rem = true
+is_multiply Remu = true
+is_multiply Mulw = true
+is_multiply Divw = true
+is_multiply Divuw = true
+is_multiply Remw = true
+is_multiply Remuw = true
+is_multiply op = false
+
+-- what an instruction of the extension for atomic accesses (A) does
+abbrev pub is_atomic : Class → Bool
+is_atomic (LoadReserved width) = true
+is_atomic (StoreConditional width) = true
+is_atomic (Atomic width) = true
+is_atomic class = false
 
 -- the format of an instruction, and the bits that its row of the table names
 abbrev pub form_of : Op → Format × ℕ

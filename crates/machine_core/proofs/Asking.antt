@@ -1,5 +1,5 @@
 -- A call on a device, and acts in a row: what they keep, and where they lead.
-use Rattle.std.proofs.Common.{◌≡◌, ℕ, ◌<◌, ◌≤◌, true, false, [], ◌∷◌, ◌++◌, refl, ap, sym, ◌∙◌, subst, eq-eqb}
+use Rattle.std.proofs.Common.{◌≡◌, ℕ, ◌+◌, ◌<◌, ◌≤◌, true, false, [], ◌∷◌, ◌++◌, length, max, refl, ap, sym, ◌∙◌, subst, eq-eqb}
 use Rattle.guest_words.specs.declared.record.Record.{Record}
 use Rattle.guest_words.specs.Act.{StateAct, Ordinary, Fault, Request, Arrival, End, Absent, act_of, fits}
 use Rattle.guest_words.specs.Endings.{is_budget_spent}
@@ -21,6 +21,7 @@ use Rattle.run_history.proofs.Quietness.{alone_called, alone_ran}
 use Rattle.run_history.proofs.StepsAfter.{can_ordinary}
 use Rattle.run_history.proofs.Under.{called_under, may_under, ran_under}
 use Rattle.hart_step.specs.Live.{space_of}
+use Rattle.hart_step.specs.Noted.{notes_for}
 use Rattle.open_calls.specs.Nest.{flat}
 use Rattle.machine_core.specs.Inner.{Holds, Inner, IsGoing, opened_in, whole_in}
 use Rattle.machine_core.specs.Kept.{HasDevices}
@@ -29,7 +30,8 @@ use Rattle.machine_core.specs.QuietSteps.{CallsOn}
 use Rattle.machine_core.specs.Served.{OpenOnes, ServedBy}
 use Rattle.machine_core.specs.Under.{Goes}
 use Rattle.machine_core.proofs.Calls.{kept_served, open_ones}
-use Rattle.machine_core.proofs.Holding.{Puts, adds_acts, adds_entry, puts, puts_acts, puts_push, puts_under, run_so_far, within}
+use Rattle.machine_core.proofs.Growing.{acted_notes}
+use Rattle.machine_core.proofs.Holding.{Puts, adds_acts, adds_entry, puts, puts_acts, puts_fewer, puts_push, puts_under, run_so_far, within}
 
 -- what the records leave open is open
 pub holds_open : (start : State) (told d : Seen) (w : Inner) (p : Noted) (shuts : ℕ) → Holds start told w p → HasDevices told w d shuts → OpenOnes w.live.state d
@@ -103,8 +105,8 @@ module _ (start : State) (told : Seen) (w v : Inner) (p q : Noted) (k : Holds st
         subst (λ (t : State). ahead t w.hart < ahead s w.hart) (after-Ran s w.hart n ∙ sym to)
         (ahead_ran s w.hart n (legal-Ran s w.hart n may some goes) (within start told w p k))
 
-    pub acts_goes : StaysOpen w.live.state w.hart n → (d : Seen) → Goes start w d v d
-    acts_goes stays d =
+    pub acts_goes : StaysOpen w.live.state w.hart n → length v.notes ≤ length w.notes + max (notes_for w.live.state w.hart) n → (d : Seen) → Goes start w d v d
+    acts_goes stays few d =
         let s = w.live.state in
         let does : Acts (opened_in w d) (whole_in v d) = record {
           count = n;
@@ -121,6 +123,7 @@ module _ (start : State) (told : Seen) (w v : Inner) (p q : Noted) (k : Holds st
         record {
           steps = subst (λ b. DoesBy start (opened_in w d) b (whole_in v d)) (sym fresh) (by (act_of s w.hart) (can_ordinary s w.hart (goes-first s w.hart n some goes)) does);
           under = puts_under (with_acts w.hart n) w v p q x;
+          notes = acted_notes w v d d (puts_fewer (with_acts w.hart n) w v p q x) n (can_ordinary s w.hart (goes-first s w.hart n some goes)) goes to few;
           nearer = λ going. acts_nearer;
         }
       where

@@ -25,6 +25,7 @@ has_begun w v m d h point b is at none stood =
       same = (λ i. record (whole_in v d) { abandoned = sym b.going.kept i }) ∙ enters.same ∙ (λ i. with_entry (is i) (Entered (at i) (same i)));
       hart = hart;
       outermost = b.under.outermost (omega (arith, one)) ∙ (λ i. lowest_from (none i) w.nest.entries) ∙ ap (λ (x : Machine). x.history) is;
+      none = b.none;
       one = ap (frames_at v.live.state) (sym hart) ∙ b.going.framed ∙ one;
       goes = record { under = b.going.under; framed = b.going.framed; some = omega (arith, one) };
     }

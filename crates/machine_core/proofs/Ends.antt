@@ -98,7 +98,7 @@ module _ (start : State) (told : Seen) (w v : Inner) (p q : Noted) (k : Holds st
     left d = λ i. record { history = left_entries i; state = (live i).state; devices = d; abandoned = given_up i }
 
 -- the notes are forgotten where no call is open
-pub rests : (start : State) (told : Seen) (w v : Inner) (p q : Noted) → Holds start told w p → w.nest.outers ≡ [] → v ≡ record w { notes = 0 } → q.notes ≡ [] → Holds start told v q
+pub rests : (start : State) (told : Seen) (w v : Inner) (p q : Noted) → Holds start told w p → w.nest.outers ≡ [] → v ≡ record w { notes = [] } → q.notes ≡ [] → Holds start told v q
 rests start told w v p q k none same empty =
     let n = w.nest in
     let m = space_of w.live in

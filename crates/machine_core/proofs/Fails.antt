@@ -38,7 +38,7 @@ use Rattle.open_calls.proofs.Stacks.{flat_run}
 use Rattle.machine_core.specs.Inner.{Holds, Inner, IsGoing, IsUnderSame, opened_in, whole_in}
 use Rattle.machine_core.specs.OpenSteps.{Erases}
 use Rattle.machine_core.proofs.Gone.{undone_spare}
-use Rattle.machine_core.proofs.Holding.{Puts, adds_entry, puts, puts_push, puts_under, run_so_far}
+use Rattle.machine_core.proofs.Holding.{Puts, adds_entry, puts, puts_fewer, puts_push, puts_under, run_so_far}
 
 -- the entries before the outermost call are the first of those before an inner one
 since : (h : ℕ) (os : List Level) (es : List Entry) → (more : List Entry) × (flat_from h os es ≡ lowest_from os es ++ more)
@@ -92,7 +92,7 @@ module _ (start : State) (told : Seen) (w v : Inner) (p q : Noted) (k : Holds st
 
   -- the parts where the call was entered
   abbrev pub before : Inner
-  before = record { hart = w.hart; nest = record { outers = os; entries = o.entries }; notes = o.mark; live = record { state = is.b; spare = is.m.spare }; abandoned = w.abandoned }
+  before = record { hart = w.hart; nest = record { outers = os; entries = o.entries }; notes = take o.mark p.notes; live = record { state = is.b; spare = is.m.spare }; abandoned = w.abandoned }
 
   -- and the log with the notes of then
   abbrev pub left_log : Noted
@@ -159,6 +159,12 @@ module _ (start : State) (told : Seen) (w v : Inner) (p q : Noted) (k : Holds st
       fails_under =
           let same = puts_under (λ es. es ++ e ∷ []) before v left_log q x in
           record { hart = same.hart; outermost = λ some. same.outermost some ∙ sym (ap (λ ls. lowest_from ls w.nest.entries) innermost) }
+
+      pub fails_fewer : length v.nest.outers ≤ length w.nest.outers
+      fails_fewer =
+          let less = puts_fewer (λ es. es ++ e ∷ []) before v left_log q x in
+          let one = ap length innermost in
+          omega (arith, less, one)
 
       pub erases : (d : Seen) → Erases start fault (opened_in w d) (whole_in v d)
       erases d =

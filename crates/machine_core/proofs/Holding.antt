@@ -20,7 +20,7 @@ use Rattle.hart_step.specs.Live.{space_of}
 use Rattle.hart_step.specs.Returns.{CanReturn}
 use Rattle.open_calls.specs.Nest.{Level, Nest, closed_to, closing, flat, lowest}
 use Rattle.open_calls.specs.Stacked.{Stacked}
-use Rattle.open_calls.proofs.Nests.{depth_closed, flat_closed, flat_push}
+use Rattle.open_calls.proofs.Nests.{depth_closed, depth_less, flat_closed, flat_push}
 use Rattle.open_calls.proofs.Stacks.{acts, closes_to, flat_run, pushes}
 use Rattle.machine_core.specs.Inner.{Holds, Inner, IsGoing, IsUnderSame}
 use Rattle.machine_core.proofs.Gone.{gone_in-append}
@@ -58,6 +58,13 @@ puts_under put w v p q x =
           let left : 0 < length c.outers = omega (arith, some, depth) in
           low ∙ lowest_under c.outers (put c.entries) c.entries left ∙ lowest_closed w.hart (frames_at v.live.state w.hart) w.nest.outers w.nest.entries left;
     }
+
+-- no more are open
+pub puts_fewer : (put : List Entry → List Entry) (w v : Inner) (p q : Noted) → Puts put w v p q → length v.nest.outers ≤ length w.nest.outers
+puts_fewer put w v p q x =
+    let depth = ap (λ (n : Nest). length n.outers) x.nest in
+    let less = depth_less w.hart (frames_at v.live.state w.hart) w.nest.outers w.nest.entries in
+    omega (arith, depth, less)
 
 -- with no call open none opens
 closed_none : (h keep : ℕ) (n : Nest) → n.outers ≡ [] → (closed_to h keep n).outers ≡ []

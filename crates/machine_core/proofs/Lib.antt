@@ -7,6 +7,7 @@ pub mod Asking
 pub mod Ends
 pub mod Opening
 pub mod Fails
+pub mod Growing
 pub mod Steps
 pub mod Told
 pub mod Turning

@@ -112,7 +112,7 @@ sees_ordinary Absent x e is = cc
 pub same_inner : (old new : Live) (calls room : Stack) (p q : Noted) (abandoned : Bool) → room.nest ≡ calls.nest → room.hart ≡ calls.hart → q.notes ≡ p.notes → new ≡ old
     → inner_of new room q abandoned ≡ inner_of old calls p abandoned
 same_inner old new calls room p q abandoned nest hart notes live =
-    λ i. record { hart = hart i; nest = nest i; notes = length (notes i); live = live i; abandoned = abandoned }
+    λ i. record { hart = hart i; nest = nest i; notes = notes i; live = live i; abandoned = abandoned }
 
 -- a row in which no act was made leaves all parts as they were
 pub unmoved : (noted : Bool) (old new : Live) (calls room : Stack) (p made q : Noted) (abandoned : Bool) (own n : ℕ) → room.nest ≡ calls.nest → room.hart ≡ calls.hart → made.notes ≡ p.notes → n ≡ 0 → new.state ≡ ran old.state own n

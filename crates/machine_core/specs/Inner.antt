@@ -1,9 +1,10 @@
 -- What a machine keeps of its run, whether calls are open or none is; its devices stand beside it.
-use Rattle.std.specs.Prelude.{◌≡◌, ℕ, ◌≤◌, ◌<◌, Bool, true, false, [], length, None}
+use Rattle.std.specs.Prelude.{◌≡◌, ℕ, ◌≤◌, ◌<◌, Bool, true, false, List, [], length, None}
 use Rattle.guest_words.specs.State.{State, frames_at}
 use Rattle.edge_ports.specs.Seen.{Seen}
 use Rattle.run_history.specs.Quiet.{is_quiet}
 use Rattle.run_history.specs.Under.{IsUnder}
+use Rattle.undo_log.specs.declared.note.Note.{Note}
 use Rattle.undo_log.specs.Noted.{Noted}
 use Rattle.undo_log.specs.Undo.{gone_in}
 use Rattle.hart_step.specs.Live.{Live, space_of}
@@ -12,12 +13,12 @@ use Rattle.open_calls.specs.Nest.{Nest, Stack, flat, lowest}
 use Rattle.open_calls.specs.Stacked.{Stacked}
 use Rattle.machine_core.specs.Machine.{IsStart, Machine, Opened}
 
--- whose calls are open, the calls with the history, how many notes the log has, the state, and
--- whether it isn't to go on
+-- whose calls are open, the calls with the history, the notes of the log, the state, and whether it
+-- isn't to go on
 pub record Inner : Type 0 where
   pub hart : ℕ
   pub nest : Nest
-  pub notes : ℕ
+  pub notes : List Note
   pub live : Live
   pub abandoned : Bool
 
@@ -25,7 +26,7 @@ abbrev pub inner_of : Live → Stack → Noted → Bool → Inner
 inner_of live calls log abandoned = record {
   hart = calls.hart;
   nest = calls.nest;
-  notes = length log.notes;
+  notes = log.notes;
   live = live;
   abandoned = abandoned;
 }

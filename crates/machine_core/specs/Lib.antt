@@ -5,6 +5,7 @@ pub mod Inner
 pub mod Kept
 pub mod Machine
 pub mod Nearer
+pub mod Notes
 pub mod OpenSteps
 pub mod QuietSteps
 pub mod Served

@@ -19,6 +19,7 @@ use Rattle.machine_core.specs.declared.machine.Begin.TheVariants as begin
 use Rattle.machine_core.specs.declared.machine.Next.{Next}
 use Rattle.machine_core.specs.declared.machine.Next.TheVariants as next
 use Rattle.machine_core.specs.Machine.{GoesOn, Machine, Opened, history_of, whole}
+use Rattle.machine_core.specs.Notes.{IsUnnoted, NotesGoOn}
 use Rattle.machine_core.specs.QuietSteps.{CallsOn, EndsBy, with_entry}
 
 -- the machine that isn't to go on
@@ -98,6 +99,7 @@ pub record StaysUnder (start : State) (a b : Opened) : Type 0 where
   pub steps : StepsTo start a (whole b)
   pub hart : b.hart ≡ a.hart
   pub outermost : lowest b.nest ≡ lowest a.nest
+  pub notes : NotesGoOn a b
   pub goes : GoesOn b
 
 -- no call is open: no frame is, or the run has ended
@@ -123,6 +125,7 @@ pub record HasBegun (h : ℕ) (point : PointRef) (m : Machine) (a : Opened) : Ty
   pub hart : a.hart ≡ h
   pub outermost : lowest a.nest ≡ m.history
   pub one : frames_at a.state h ≡ 1
+  pub none : IsUnnoted a.nest a.notes
   pub goes : GoesOn a
 
 -- a call was begun, or memory was wanting

@@ -1,6 +1,7 @@
 //! Steps of a machine with calls open.
 ghost use Rattle.std.specs.Prelude.{◌≡◌, ◌<◌, length};
 ghost use Rattle.guest_words.specs.State.{frames_at};
+ghost use Rattle.open_calls.specs.Leading.{LeadsBack};
 ghost use Rattle.open_calls.specs.Nest.{lowest, notes_in};
 ghost use Rattle.machine_core.specs.Appends.{Appends, StaysBehind};
 ghost use Rattle.machine_core.specs.Machine.{whole, GoesOn};
@@ -10,6 +11,7 @@ ghost use Rattle.machine_core.specs.OpenSteps.{abandoned_of, GoesTo};
 use crate::machine::{Active, Core, Next, Quiet};
 use crate::origin::Origin;
 use edge_ports::{Port, Sink, Source};
+use undo_log::Note;
 
 impl<K: Origin, S: Source, T: Sink, P: Port> Active<K, S, T, P> {
     /// The hart's next act, or ordinary acts in a row. A fault takes the innermost call back, and
@@ -61,11 +63,14 @@ impl<K: Origin, S: Source, T: Sink, P: Port> Active<K, S, T, P> {
         core.inner.depth()
     }
 
-    /// How many notes a frame's call has up to the entering of the next, the outermost frame being
-    /// 0.
-    pub fn notes(&self, frame: usize) -> u64
+    /// The notes of a frame's call up to the entering of the next, the oldest first, the outermost
+    /// frame being 0: put back into memory, the innermost frame's first and in each the newest
+    /// first, those down to this frame give the memory of the state in which it was entered.
+    pub fn notes(&self, frame: usize) -> &[Note]
         requires open { frame < length self.now.nest.outers }
-        ensures value { result ≡ notes_in frame self.now.notes self.now.nest }
+        ensures value { result.now ≡ notes_in frame self.now.notes self.now.nest }
+        ensures back { LeadsBack K.state self.now.hart frame self.now.notes self.now.nest
+            self.now.state }
     {
         let core: &Core<K, S, T, P> = &self.core;
         core.inner.notes(frame)

@@ -25,6 +25,7 @@ impl<K: Origin> Inner<K> {
         ensures hart { self.new.hart ≡ self.old.hart }
         ensures records { self.new.live.state.records ≡ self.old.live.state.records }
         ensures none { OnOk result (self.new.nest.outers ≡ []) }
+        ensures notes { OnOk result (self.new.notes ≡ self.old.notes) }
         ensures err { OnErr result (self.new ≡ self.old) }
     {
         make_room(&mut self.calls, &mut self.log, 0)?;

@@ -5,6 +5,7 @@ ghost use Rattle.guest_words.specs.Endings.{is_budget_spent};
 ghost use Rattle.edge_ports.specs.Seen.{Seen};
 ghost use Rattle.run_history.specs.Ahead.{ahead};
 ghost use Rattle.machine_core.specs.Inner.{whole_in, IsGoing, IsUnderSame};
+ghost use Rattle.machine_core.specs.Notes.{IsUnnoted};
 ghost use Rattle.machine_core.specs.OpenSteps.{EntersAt};
 
 use crate::inner::Inner;
@@ -29,6 +30,8 @@ impl<K: Origin> Inner<K> {
         ensures going { OnOk result (IsGoing self.new) }
         ensures deeper { OnOk result
             (length self.new.nest.outers ≡ length self.old.nest.outers + 1) }
+        ensures notes { OnOk result (self.new.notes ≡ self.old.notes) }
+        ensures none { OnOk result (IsUnnoted self.new.nest self.new.notes) }
         ensures err { OnErr result (self.new ≡ self.old) }
     {
         let hart = self.calls.hart();

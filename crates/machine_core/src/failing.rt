@@ -1,5 +1,5 @@
 //! Faults while calls are open.
-ghost use Rattle.std.specs.Prelude.{◌≡◌, ◌<◌, ◌∷◌, false, length, Some};
+ghost use Rattle.std.specs.Prelude.{◌≡◌, ◌<◌, ◌≤◌, ◌∷◌, false, length, Some};
 ghost use Rattle.guest_words.specs.Endings.{is_budget_spent};
 ghost use Rattle.edge_ports.specs.Seen.{Seen};
 ghost use Rattle.run_history.specs.Ahead.{ahead};
@@ -28,6 +28,8 @@ impl<K: Origin> Inner<K> {
         ensures records { self.new.live.state.records ≡ self.old.live.state.records }
         ensures nearer { ahead self.new.live.state self.old.hart
             < ahead self.old.live.state self.old.hart }
+        ensures fewer { length self.new.nest.outers ≤ length self.old.nest.outers }
+        ensures few { length self.new.notes ≤ length self.old.notes }
     {
         let hart = self.calls.hart();
         let Taken {

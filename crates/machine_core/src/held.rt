@@ -6,6 +6,7 @@ ghost use Rattle.guest_words.specs.Image.{IsLoadList};
 ghost use Rattle.guest_words.specs.Start.{start_of};
 ghost use Rattle.edge_ports.specs.Seen.{Seen};
 ghost use Rattle.hart_step.specs.Registers.{IsTextOf};
+ghost use Rattle.open_calls.specs.Leading.{LeadsBack};
 ghost use Rattle.open_calls.specs.Nest.{notes_in};
 ghost use Rattle.run_history.specs.After.{state_after};
 ghost use Rattle.run_history.specs.Counts.{records_of_all};
@@ -25,7 +26,7 @@ use open_calls::Calls;
 use run_history::History;
 use std::alloc::Global;
 use std::marker::PhantomData;
-use undo_log::Log;
+use undo_log::{Log, Note};
 
 impl<K: Origin> Inner<K> {
     /// The start of a run.
@@ -46,7 +47,7 @@ impl<K: Origin> Inner<K> {
         ensures ok { IfOk result (λ inner. inner ≡ record {
           hart = 0;
           nest = record { outers = []; entries = [] };
-          notes = 0;
+          notes = [];
           live = record { state = K.state; spare = 0 };
           abandoned = false;
         }) }
@@ -75,7 +76,7 @@ impl<K: Origin> Inner<K> {
     /// Forgets the notes of what can't be taken back any more.
     pub(crate) fn rest(&mut self)
         requires none { self.old.nest.outers ≡ [] }
-        ensures same { self.new ≡ record self.old { notes = 0 } }
+        ensures same { self.new ≡ record self.old { notes = [] } }
     {
         self.log.clear();
         self.thin_at = MANY;
@@ -133,12 +134,14 @@ impl<K: Origin> Inner<K> {
         self.calls.depth()
     }
 
-    /// How many notes a call has, the outermost being 0, up to the entering of the next.
-    pub(crate) fn notes(&self, call: usize) -> u64
+    /// The notes of a call, the outermost being 0, up to the entering of the next.
+    pub(crate) fn notes(&self, call: usize) -> &[Note]
         requires open { call < length self.now.nest.outers }
-        ensures value { result ≡ notes_in call self.now.notes self.now.nest }
+        ensures value { result.now ≡ notes_in call self.now.notes self.now.nest }
+        ensures back { LeadsBack K.state self.now.hart call self.now.notes self.now.nest
+            self.now.live.state }
     {
-        self.calls.notes(call, self.log.length())
+        self.calls.notes(call, &self.log)
     }
 
     /// How the run has ended, if it has.

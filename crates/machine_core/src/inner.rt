@@ -29,6 +29,7 @@ impl<K: Origin> Model for Inner<K> {
     ghost use Rattle.guest_words.specs.contracts.image.Cell as cell;
     ghost use Rattle.run_history.specs.contracts.entry.Entry as entry;
     ghost use Rattle.checkpoints.specs.contracts.checkpoint.Checkpoint as kept;
+    ghost use Rattle.undo_log.specs.contracts.note.Note as note;
     ghost use Rattle.machine_core.specs.Inner.{inner_of, Holds, Inner};
 
     ghost Value = { Inner };
@@ -38,6 +39,7 @@ impl<K: Origin> Model for Inner<K> {
       map.code {R = nat_cmp} coded_ℕ cell.the_row.coded,
       entry.the_row.coded,
       kept.the_row.coded,
+      note.the_row.coded,
     ) };
 
     ghost view = { λ m. inner_of m.engine m.calls m.log m.abandoned };

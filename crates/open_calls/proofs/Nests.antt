@@ -14,6 +14,16 @@ depth_closed h keep (o ∷ os) es few = by (nat_lt (length os) keep) refl (depth
     by true is further = let l : length os < keep = grind (arith, nat_tests, is) in omega (arith, l, few)
     by false is further = let l : keep ≤ length os = grind (arith, nat_tests, is) in further l
 
+-- no more are open than before
+pub depth_less : (h keep : ℕ) (os : List Level) (es : List Entry) → length (closing h keep os es).outers ≤ length os
+depth_less h keep [] es = omega arith
+depth_less h keep (o ∷ os) es = by (nat_lt (length os) keep) (depth_less h keep os (joined h o es))
+  where
+    by : (b : Bool) → length (closing h keep os (joined h o es)).outers ≤ length os
+        → length (if b then record { outers = o ∷ os; entries = es } else closing h keep os (joined h o es)).outers ≤ length (o ∷ os)
+    by true less = omega arith
+    by false less = omega (arith, less)
+
 -- where no more are open, none closes
 pub closed_few : (h keep : ℕ) (n : Nest) → length n.outers ≤ keep → closed_to h keep n ≡ n
 closed_few h keep n few = by n.outers n.entries few

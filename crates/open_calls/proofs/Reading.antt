@@ -1,11 +1,12 @@
 -- The lowest list of some calls, and the notes of one of them, by the levels in their order.
-use Rattle.std.proofs.Common.{◌≡◌, ◌≢◌, ℕ, zero, suc, ◌-◌, ◌≤◌, Bool, true, false, ◌==◌, if◌then◌else◌, List, [], ◌∷◌, ◌++◌, length, Option, Some, None, refl, ap, sym, ◌∙◌, slice_get, arith}
+use Rattle.std.proofs.Common.{◌≡◌, ◌≢◌, ℕ, zero, suc, ◌≤◌, Bool, true, false, ◌==◌, if◌then◌else◌, List, [], ◌∷◌, ◌++◌, drop, length, take, Option, Some, None, refl, ap, sym, ◌∙◌, slice_get, arith}
 use Rattle.std.proofs.lemmas.Bool.Decides.{nat_tests}
+use Rattle.undo_log.specs.declared.note.Note.{Note}
 use Rattle.run_history.specs.declared.entry.Entry.{Entry}
 use Rattle.run_history.specs.HistoryView.{HistoryView}
 use Rattle.open_calls.specs.declared.outer.Outer.{Outer}
-use Rattle.open_calls.specs.Nest.{lowest, lowest_from, notes_from, notes_in}
-use Rattle.open_calls.specs.Rooms.{levels, nest_of, turned}
+use Rattle.open_calls.specs.Nest.{lowest, lowest_from, notes_from, notes_in, notes_upto}
+use Rattle.open_calls.specs.Rooms.{level_of, levels, nest_of, turned}
 use Rattle.open_calls.proofs.Filling.{length-levels, length-turned, turned-push}
 
 -- the lowest list
@@ -66,27 +67,28 @@ got_front (y ∷ ys) x o (suc k) other got =
     let few = front.0 in
     (omega (arith, few), front.1)
 
-pub notes_at : (top : HistoryView) (os : List Outer) (frame all : ℕ) (o : Outer) → slice_get os frame ≡ Some o
-    → notes_in frame all (nest_of top os) ≡ end_by (slice_get os (suc frame)) all - o.mark
-notes_at top os frame all o is =
-    by (turned os) all (ap (λ ps. slice_get ps frame) (turned-turned os) ∙ is)
-    ∙ ap (λ ps. end_by (slice_get ps (suc frame)) all - o.mark) (turned-turned os)
+pub notes_at : (top : HistoryView) (os : List Outer) (frame : ℕ) (ns : List Note) (o : Outer) → slice_get os frame ≡ Some o
+    → notes_in frame ns (nest_of top os) ≡ drop o.mark (take (end_by (slice_get os (suc frame)) (length ns)) ns)
+notes_at top os frame ns o is =
+    by (turned os) (length ns) (ap (λ ps. slice_get ps frame) (turned-turned os) ∙ is)
+    ∙ ap (λ ps. drop o.mark (take (end_by (slice_get ps (suc frame)) (length ns)) ns)) (turned-turned os)
   where
-    by : (ts : List Outer) (all : ℕ) → slice_get (turned ts) frame ≡ Some o → notes_from frame (levels ts) all ≡ end_by (slice_get (turned ts) (suc frame)) all - o.mark
-    by [] all is = cc
-    by (t ∷ ts) all is = at (frame == length (levels ts)) refl (by ts t.mark)
+    by : (ts : List Outer) (end : ℕ) → slice_get (turned ts) frame ≡ Some o → notes_from frame (levels ts) end ns ≡ drop o.mark (take (end_by (slice_get (turned ts) (suc frame)) end) ns)
+    by [] end is = cc
+    by (t ∷ ts) end is = at (frame == length (levels ts)) refl (by ts t.mark)
       where
         l : length (levels ts) ≡ length (turned ts)
         l = length-levels ts ∙ sym (length-turned ts)
 
-        at : (b : Bool) → (frame == length (levels ts)) ≡ b → (slice_get (turned ts) frame ≡ Some o → notes_from frame (levels ts) t.mark ≡ end_by (slice_get (turned ts) (suc frame)) t.mark - o.mark)
-            → (if b then all - t.mark else notes_from frame (levels ts) t.mark) ≡ end_by (slice_get (turned ts ++ t ∷ []) (suc frame)) all - o.mark
+        at : (b : Bool) → (frame == length (levels ts)) ≡ b
+            → (slice_get (turned ts) frame ≡ Some o → notes_from frame (levels ts) t.mark ns ≡ drop o.mark (take (end_by (slice_get (turned ts) (suc frame)) t.mark) ns))
+            → (if b then notes_upto end (level_of t) ns else notes_from frame (levels ts) t.mark ns) ≡ drop o.mark (take (end_by (slice_get (turned ts ++ t ∷ []) (suc frame)) end) ns)
         at true e further =
             let last : frame ≡ length (turned ts) = let same : frame ≡ length (levels ts) = grind (arith, nat_tests, e) in same ∙ l in
-            λ i. sym (end_past (turned ts) t frame all last) i - (got_last (turned ts) t o frame last is i).mark
+            λ i. drop (got_last (turned ts) t o frame last is i).mark (take (sym (end_past (turned ts) t frame end last) i) ns)
         at false e further =
             let other : frame ≢ length (turned ts) = λ same. let same_levels : (frame == length (levels ts)) ≡ true = grind (arith, nat_tests, same, l) in cc in
             let front = got_front (turned ts) t o frame other is in
             let few = front.0 in
             let within : suc frame ≤ length (turned ts) = grind (arith, few, other) in
-            further front.1 ∙ ap (λ end. end - o.mark) (sym (end_push (turned ts) t (suc frame) all within))
+            further front.1 ∙ ap (λ n. drop o.mark (take n ns)) (sym (end_push (turned ts) t (suc frame) end within))

@@ -1,3 +1,4 @@
+pub mod Leading
 pub mod Nest
 pub mod Rooms
 pub mod Stacked

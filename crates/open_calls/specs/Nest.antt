@@ -1,7 +1,8 @@
 -- Calls open within calls: what contracts see of them, and how they change.
-use Rattle.std.specs.Prelude.{ℕ, ◌-◌, ◌==◌, nat_lt, if◌then◌else◌, List, [], ◌∷◌, ◌++◌, length}
+use Rattle.std.specs.Prelude.{ℕ, ◌==◌, nat_lt, if◌then◌else◌, List, [], ◌∷◌, ◌++◌, drop, length, take}
 use Rattle.guest_words.specs.declared.point.PointRef.{PointRef}
 use Rattle.checkpoints.specs.declared.checkpoint.Checkpoint.{Checkpoint}
+use Rattle.undo_log.specs.declared.note.Note.{Note}
 use Rattle.run_history.specs.declared.entry.Entry.{Entry, Entered}
 
 -- what encloses an open call: the entries before it, how many notes the machine's log had at its
@@ -54,14 +55,18 @@ lowest_from (o ∷ os) es = lowest_from os o.entries
 abbrev pub lowest : Nest → List Entry
 lowest n = lowest_from n.outers n.entries
 
-abbrev pub notes_from : ℕ → List Level → ℕ → ℕ
-notes_from frame [] all = 0
-notes_from frame (o ∷ os) all =
-    if frame == length os then all - o.mark else notes_from frame os o.mark
+-- of so many notes those from the entering of a call on
+abbrev pub notes_upto : ℕ → Level → List Note → List Note
+notes_upto end o ns = drop o.mark (take end ns)
 
--- how many of so many notes a call has that so many enclose, up to the entering of the next
-abbrev pub notes_in : ℕ → ℕ → Nest → ℕ
-notes_in frame all n = notes_from frame n.outers all
+abbrev pub notes_from : ℕ → List Level → ℕ → List Note → List Note
+notes_from frame [] end ns = []
+notes_from frame (o ∷ os) end ns =
+    if frame == length os then notes_upto end o ns else notes_from frame os o.mark ns
+
+-- the notes of the call that so many enclose, up to the entering of the next
+abbrev pub notes_in : ℕ → List Note → Nest → List Note
+notes_in frame ns n = notes_from frame n.outers (length ns) ns
 
 abbrev pub newest_mark : List Level → ℕ
 newest_mark [] = 0

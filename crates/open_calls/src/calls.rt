@@ -15,6 +15,7 @@ use run_history::{Entry, History};
 use std::alloc::Global;
 use std::marker::Model;
 use std::mem::replace;
+use undo_log::{Log, Note};
 
 /// A refill makes room for at most so many entries.
 const MOST_ENTRIES: usize = 64;
@@ -107,18 +108,18 @@ impl Calls {
         }
     }
 
-    /// How many of so many notes in the machine's log a call has, the outermost being 0, up to the
-    /// entering of the next.
-    pub fn notes(&self, frame: usize, all: u64) -> u64
+    /// The notes of a call in the machine's log, the outermost being 0, up to the entering of the
+    /// next.
+    pub fn notes<'a>(&self, frame: usize, log: &'a Log) -> &'a [Note]
         requires open { frame < length self.now.nest.outers }
-        ensures value { result ≡ notes_in frame all self.now.nest }
+        ensures value { result.now ≡ notes_in frame log.now.notes self.now.nest }
     {
         let Some(outer) = self.outers.get(frame) else {
             unreachable!();
         };
         match self.outers.get(frame + 1) {
-            Some(next) => next.mark.saturating_sub(outer.mark),
-            None => all.saturating_sub(outer.mark),
+            Some(next) => log.between(outer.mark, next.mark),
+            None => log.between(outer.mark, log.length()),
         }
     }
 

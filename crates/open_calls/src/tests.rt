@@ -2,10 +2,11 @@ use crate::Calls;
 use checkpoints::Checkpoint;
 use futex_table::Queue;
 use guest_atomics::Harts;
-use guest_words::PointRef;
+use guest_words::{MemoryWant, PointRef, Width};
 use run_history::Entry;
 use std::alloc::Global;
 use std::test::Fail;
+use undo_log::{Log, Note};
 
 const OUTER: PointRef = PointRef { entry: 0x10000 };
 
@@ -19,6 +20,34 @@ fn nobody(alloc: Global) -> Checkpoint {
         records: 0,
         next_tid: 2,
     }
+}
+
+// That a byte had the values from 0 to 4.
+fn five_notes(alloc: Global) -> Result<Log, MemoryWant> {
+    let mut log = Log::new(alloc);
+    for old in 0..5 {
+        log.note_bytes(0x20000, Width::One, old)?;
+    }
+    Ok(log)
+}
+
+// Of two calls the inner one has the notes from its mark on.
+#[test]
+fn notes_of_each_call(rt: HostRuntime) -> Result<(), Fail> {
+    let log = five_notes(rt.alloc())?;
+    let mut calls = Calls::none(rt.alloc(), 0)?;
+    calls.make_room()?;
+    calls.open(OUTER, nobody(rt.alloc()), 0, Calls::next_list(rt.alloc())?);
+    calls.make_room()?;
+    calls.open(INNER, nobody(rt.alloc()), 2, Calls::next_list(rt.alloc())?);
+    assert!(rt;
+        matches!(
+            calls.notes(0, &log),
+            [Note::Bytes { old: 0, .. }, Note::Bytes { old: 1, .. }]
+        )
+    );
+    assert!(rt; calls.notes(1, &log).len() == 3);
+    Ok(())
 }
 
 // Acts in both of two calls, which close.
@@ -36,7 +65,6 @@ fn calls_within_calls_close(rt: HostRuntime) -> Result<(), Fail> {
     calls.make_room()?;
     calls.put_run(4);
     assert!(rt; calls.depth() == 2 && calls.length() == 0);
-    assert!(rt; calls.notes(0, 5) == 2 && calls.notes(1, 5) == 3);
     let history = calls.flatten();
     assert!(rt;
         matches!(

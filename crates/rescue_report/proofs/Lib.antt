@@ -1,4 +1,5 @@
-pub mod Digits
+pub mod Appending
+pub mod DigitTexts
 pub mod Insides
 pub mod Orders
 pub mod ListPuts

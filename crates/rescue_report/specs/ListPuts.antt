@@ -1,5 +1,5 @@
 -- What a sink is given of a list of symbols, some lines at a time.
-use Rattle.std.specs.Prelude.{◌≡◌, ◌⊎◌, ℕ, List, ◌++◌, Result, Ok, Err}
+use Rattle.std.specs.Prelude.{◌≡◌, ℕ, List, ◌++◌, Result, Ok, Err}
 use Rattle.edge_ports.specs.End.{End, Came, Rose}
 use Rattle.elf_symbols.specs.declared.symbol.Symbol.{Symbol}
 use Rattle.rescue_report.specs.declared.list_fault.ListFault.{ListFault}
@@ -24,10 +24,10 @@ pub record BrokeList (symbols : List Symbol) (old new : End) : Type 0 where
   pub began : BeganList symbols old new
   pub counts : Rose old.faults new.faults
 
--- a list that isn't put as a whole; memory may be wanting before the first put, or for a line
+-- a list that isn't put as a whole; where memory is wanting, nothing of it came
 abbrev pub StopsList : List Symbol → ListFault → End → End → Type 0
 StopsList symbols Lost old new = BrokeList symbols old new
-StopsList symbols Memory old new = (new ≡ old) ⊎ BeganList symbols old new
+StopsList symbols Memory old new = new ≡ old
 
 -- what the puts of a list come to
 abbrev pub PutsLines : {T : Type 0} → List Symbol → Result T ListFault → End → End → Type 0
@@ -41,12 +41,10 @@ pub record PutsFront (text rest : List ℕ) (old new : End) : Type 0 where
   pub came : Came old.given front new.given
   pub faults : new.faults ≡ old.faults
 
--- none of it came, and the sink failed
-pub record IsLost (old new : End) : Type 0 where
+-- a front of a text came, none maybe, and then the sink failed
+pub record BreaksFront (text : List ℕ) (old new : End) : Type 0 where
+  pub front : List ℕ
+  pub rest : List ℕ
+  pub whole : text ≡ front ++ rest
+  pub came : Came old.given front new.given
   pub counts : Rose old.faults new.faults
-  pub same : new.given ≡ old.given
-
--- what stops the puts of a list
-abbrev pub Stops : ListFault → End → End → Type 0
-Stops Lost old new = IsLost old new
-Stops Memory old new = new ≡ old

@@ -3,6 +3,8 @@
 #![tactic(auto)]
 
 mod counts;
+mod digits;
+mod gathered;
 mod lines;
 mod list;
 mod list_fault;
@@ -15,6 +17,5 @@ mod tests;
 
 pub use list_fault::ListFault;
 pub use list_put::put_list;
-pub use numbers::hexadecimal;
 pub use report::report_text;
 pub use summary::summary_text;

@@ -1,20 +1,25 @@
-ghost use Rattle.std.specs.Prelude.{◌≡◌, IfOk, string_bytes};
+ghost use Rattle.std.specs.Prelude.{◌≡◌, ◌++◌, IfOk, OnOk, string_bytes};
 ghost use Rattle.rescue_report.specs.Lines.{count_line, end_line, rescue_line, spent_line};
 
 use crate::counts::Counts;
-use crate::numbers::{code_text, hexadecimal};
+use crate::numbers::{put_code, put_hexadecimal};
 use guest_words::{Ending, Fault, MemoryWant, PointRef, Ret};
 use std::alloc::Global;
 
-/// The line of a number with its name.
-pub(crate) fn count_line(alloc: Global, name: &str, number: u128) -> Result<String, MemoryWant>
-    ensures ok { IfOk result (λ text. string_bytes text ≡ count_line name.now number) }
+/// Few lines of a rescued call are longer.
+const ROOM: usize = 160;
+
+/// Appends the line of a number with its name.
+pub(crate) fn put_count(text: &mut String, name: &str, number: u128) -> Result<(), MemoryWant>
+    ensures ok { OnOk result
+        (string_bytes text.new ≡ string_bytes text.old ++ count_line name.now number) }
 {
-    Ok(format!(in alloc; "{name} {number}\n")?)
+    writeln!(text, "{name} {number}")?;
+    Ok(())
 }
 
 /// The line of a rescued call, by how deep it lies in others, what its inside holds and what it
-/// returned.
+/// returned. Most have room at first.
 pub(crate) fn rescue_line(
     alloc: Global,
     depth: u128,
@@ -28,43 +33,67 @@ pub(crate) fn rescue_line(
         (λ text. string_bytes text
         ≡ rescue_line depth hart point fault inside.steps inside.records code) }
 {
-    let Counts { steps, records, .. } = inside;
-    let entry = hexadecimal(alloc, point.entry)?;
-    let name = fault.name.name();
-    let pc = hexadecimal(alloc, fault.pc)?;
-    let code = code_text(alloc, code)?;
-    let mut line = format!(in alloc; "rescue depth {depth} hart {hart} point {entry} ")?;
-    writeln!(
-        line,
-        "fault {name} pc {pc} steps {steps} records {records} code {code}"
-    )?;
+    let mut line = String::with_capacity(alloc, ROOM)?;
+    put_rescue_line(&mut line, depth, hart, point, fault, inside, code)?;
     Ok(line)
 }
 
-/// The line of a point to which no rescue is left.
-pub(crate) fn spent_line(alloc: Global, entry: u64) -> Result<String, MemoryWant>
-    ensures ok { IfOk result (λ text. string_bytes text ≡ spent_line entry) }
+fn put_rescue_line(
+    text: &mut String,
+    depth: u128,
+    hart: u8,
+    point: PointRef,
+    fault: Fault,
+    inside: Counts,
+    code: Ret,
+) -> Result<(), MemoryWant>
+    ensures ok { OnOk result
+        (string_bytes text.new ≡ string_bytes text.old
+        ++ rescue_line depth hart point fault inside.steps inside.records code) }
 {
-    let entry = hexadecimal(alloc, entry)?;
-    Ok(format!(in alloc; "spent point {entry}\n")?)
+    let Counts { steps, records, .. } = inside;
+    let name = fault.name.name();
+    write!(text, "rescue depth {depth} hart {hart} point ")?;
+    put_hexadecimal(text, point.entry)?;
+    write!(text, " fault {name} pc ")?;
+    put_hexadecimal(text, fault.pc)?;
+    write!(text, " steps {steps} records {records} code ")?;
+    put_code(text, code)?;
+    text.push_str("\n")?;
+    Ok(())
 }
 
-/// The last line.
-pub(crate) fn end_line(alloc: Global, ending: &Ending) -> Result<String, MemoryWant>
-    ensures ok { IfOk result (λ text. string_bytes text ≡ end_line ending.now) }
+/// Appends the line of a point to which no rescue is left.
+pub(crate) fn put_spent_line(text: &mut String, entry: u64) -> Result<(), MemoryWant>
+    ensures ok { OnOk result (string_bytes text.new ≡ string_bytes text.old ++ spent_line entry) }
+{
+    text.push_str("spent point ")?;
+    put_hexadecimal(text, entry)?;
+    text.push_str("\n")?;
+    Ok(())
+}
+
+/// Appends the last line.
+pub(crate) fn put_end(text: &mut String, ending: &Ending) -> Result<(), MemoryWant>
+    ensures ok { OnOk result
+        (string_bytes text.new ≡ string_bytes text.old ++ end_line ending.now) }
 {
     match *ending {
-        Ending::Exit { code, .. } => Ok(format!(in alloc; "end exit {code}\n")?),
-        Ending::Fault { hart, fault } => fault_line(alloc, hart, fault),
-        Ending::Stuck => Ok(String::from_str(alloc, "end stuck\n")?),
-        Ending::Budget => Ok(String::from_str(alloc, "end budget\n")?),
+        Ending::Exit { code, .. } => writeln!(text, "end exit {code}")?,
+        Ending::Fault { hart, fault } => put_fault(text, hart, fault)?,
+        Ending::Stuck => text.push_str("end stuck\n")?,
+        Ending::Budget => text.push_str("end budget\n")?,
     }
+    Ok(())
 }
 
-fn fault_line(alloc: Global, hart: u8, fault: Fault) -> Result<String, MemoryWant>
-    ensures ok { IfOk result (λ text. string_bytes text ≡ end_line (Ending.Fault hart fault)) }
+fn put_fault(text: &mut String, hart: u8, fault: Fault) -> Result<(), MemoryWant>
+    ensures ok { OnOk result
+        (string_bytes text.new ≡ string_bytes text.old ++ end_line (Ending.Fault hart fault)) }
 {
     let name = fault.name.name();
-    let pc = hexadecimal(alloc, fault.pc)?;
-    Ok(format!(in alloc; "end fault {name} hart {hart} pc {pc}\n")?)
+    write!(text, "end fault {name} hart {hart} pc ")?;
+    put_hexadecimal(text, fault.pc)?;
+    text.push_str("\n")?;
+    Ok(())
 }

@@ -1,7 +1,6 @@
-ghost use Rattle.std.specs.Prelude.{◌≡◌, ◌++◌, IfOk, OnOk, string_bytes, map};
-ghost use Rattle.rescue_report.specs.List.{IsOrdered, symbol_of, symbol_line};
+ghost use Rattle.std.specs.Prelude.{IfOk, map};
+ghost use Rattle.rescue_report.specs.List.{IsOrdered, symbol_of};
 
-use crate::numbers::hexadecimal;
 use elf_symbols::{Symbol, Symbols};
 use guest_words::MemoryWant;
 use std::alloc::Global;
@@ -32,15 +31,4 @@ fn sorted_rows<'a>(alloc: Global, symbols: &[Symbol<'a>]) -> Result<Vec<Row<'a>>
     }
     rows.sort_unstable();
     Ok(rows)
-}
-
-/// Appends the line of a symbol: its value, its size and its name.
-pub(crate) fn put_row(alloc: Global, text: &mut String, row: &Row) -> Result<(), MemoryWant>
-    ensures ok { OnOk result
-        (string_bytes text.new ≡ string_bytes text.old ++ symbol_line (symbol_of row.now)) }
-{
-    let (value, name, size) = *row;
-    let value = hexadecimal(alloc, value)?;
-    text.push_str(format!(in alloc; "{value} {size} {name}\n")?.as_str())?;
-    Ok(())
 }

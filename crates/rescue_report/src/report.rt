@@ -3,7 +3,7 @@ ghost use Rattle.rescue_report.specs.Report.{report_of, spent_lines};
 ghost use Rattle.rescue_report.specs.Rescues.{rescue_lines, rescue_lines_of_all, rescued_lines};
 
 use crate::counts::{Counts, sum};
-use crate::lines::{count_line, end_line, rescue_line, spent_line};
+use crate::lines::{put_count, put_end, put_spent_line, rescue_line};
 use guest_words::{Bytes, Ending, Fault, MemoryWant, Point, PointRef, Points};
 use run_history::{Entry, History};
 use std::alloc::Global;
@@ -23,22 +23,22 @@ pub fn report_text(
     let entries = history.items();
     let counts = Counts::of(entries)?;
     let mut text = String::from_str(alloc, "rescue-report 1\n")?;
-    text.push_str(count_line(alloc, "steps", counts.steps)?.as_str())?;
-    text.push_str(count_line(alloc, "records", counts.records)?.as_str())?;
-    text.push_str(count_line(alloc, "rescues", counts.rescues)?.as_str())?;
+    put_count(&mut text, "steps", counts.steps)?;
+    put_count(&mut text, "records", counts.records)?;
+    put_count(&mut text, "rescues", counts.rescues)?;
     put_rescues(alloc, &mut text, points, entries, 0)?;
-    put_spent(alloc, &mut text, points.items())?;
-    text.push_str(end_line(alloc, ending)?.as_str())?;
+    put_spent(&mut text, points.items())?;
+    put_end(&mut text, ending)?;
     Ok(Bytes::of(text.into_bytes()))
 }
 
-fn put_spent(alloc: Global, text: &mut String, points: &[Point]) -> Result<(), MemoryWant>
+fn put_spent(text: &mut String, points: &[Point]) -> Result<(), MemoryWant>
     ensures ok { OnOk result
         (string_bytes text.new ≡ string_bytes text.old ++ spent_lines points.now) }
 {
     for point in points {
         if matches!(point.left, Some(0)) {
-            text.push_str(spent_line(alloc, point.entry)?.as_str())?;
+            put_spent_line(text, point.entry)?;
         }
     }
     Ok(())

@@ -1,8 +1,8 @@
-ghost use Rattle.std.specs.Prelude.{◌≡◌, IfOk, string_bytes};
+ghost use Rattle.std.specs.Prelude.{◌≡◌, ◌++◌, IfOk, OnOk, string_bytes};
 ghost use Rattle.rescue_report.specs.Summary.{summary_of, sum_line};
 
 use crate::counts::Counts;
-use crate::lines::{count_line, end_line};
+use crate::lines::{put_count, put_end};
 use elf_loader::fields::u64_at;
 use guest_words::{Bytes, Ending, MemoryWant};
 use run_history::History;
@@ -22,23 +22,26 @@ pub fn summary_text(
         (λ text. text ≡ summary_of number bytes out.now history.now.entries ending.now) }
 {
     let counts = Counts::of(history.items())?;
-    let mut text = count_line(alloc, "load", u128::from(number))?;
-    text.push_str(count_line(alloc, "bytes", u128::from(bytes))?.as_str())?;
-    text.push_str(sum_line(alloc, out.items())?.as_str())?;
-    text.push_str(count_line(alloc, "steps", counts.steps)?.as_str())?;
-    text.push_str(count_line(alloc, "records", counts.records)?.as_str())?;
-    text.push_str(count_line(alloc, "rescues", counts.rescues)?.as_str())?;
-    text.push_str(end_line(alloc, ending)?.as_str())?;
+    let mut text = String::new(alloc);
+    put_count(&mut text, "load", u128::from(number))?;
+    put_count(&mut text, "bytes", u128::from(bytes))?;
+    put_sum(&mut text, out.items())?;
+    put_count(&mut text, "steps", counts.steps)?;
+    put_count(&mut text, "records", counts.records)?;
+    put_count(&mut text, "rescues", counts.rescues)?;
+    put_end(&mut text, ending)?;
     Ok(Bytes::of(text.into_bytes()))
 }
 
-/// The line of the sum that the load wrote.
-fn sum_line(alloc: Global, out: &[u8]) -> Result<String, MemoryWant>
-    ensures ok { IfOk result (λ text. string_bytes text ≡ sum_line out.now) }
+/// Appends the line of the sum that the load wrote.
+fn put_sum(text: &mut String, out: &[u8]) -> Result<(), MemoryWant>
+    ensures ok { OnOk result
+        (string_bytes text.new ≡ string_bytes text.old ++ sum_line out.now) }
 {
     if out.len() == 8 {
-        count_line(alloc, "sum", u128::from(u64_at(out, 0)))
+        put_count(text, "sum", u128::from(u64_at(out, 0)))
     } else {
-        Ok(String::from_str(alloc, "sum none\n")?)
+        text.push_str("sum none\n")?;
+        Ok(())
     }
 }

@@ -1,5 +1,5 @@
-use crate::list::{ordered_rows, put_row};
-use crate::report_text;
+use crate::{put_list, report_text};
+use edge_ports::MemorySink;
 use elf_symbols::{SymbolTable, Symbols};
 use guest_words::{Ending, Fault, FaultName, Kind, MemoryWant, Point, PointRef, Points, Ret};
 use run_history::{Entry, History};
@@ -84,11 +84,31 @@ fn two_symbols(rt: HostRuntime) -> Result<(), Fail> {
         count: 2,
         strings: b"handle\0_start\0",
     }));
-    let mut text = String::new(alloc);
-    for row in &ordered_rows(alloc, &symbols)? {
-        put_row(alloc, &mut text, row)?;
-    }
+    let mut sink = MemorySink::new(Vec::new(alloc));
+    assert!(rt; put_list(alloc, &mut sink, &symbols).is_ok());
     let lines = "0000000000010000 0 _start\n00000000000100b0 36 handle\n";
-    assert!(rt; text.as_str() == lines);
+    assert!(rt; sink.given() == lines.as_bytes());
+    Ok(())
+}
+
+#[test]
+fn name_longer_than_the_room(rt: HostRuntime) -> Result<(), Fail> {
+    let alloc = rt.alloc();
+    let entry = *b"\
+        \0\0\0\0\x02\0\x01\0\xef\xcd\xab\x89\x67\x45\x23\x01\xff\xff\xff\xff\xff\xff\xff\xff";
+    let mut strings = vec![in alloc; b'a'; 70_000]?;
+    strings.push(0)?;
+    let symbols = Symbols::of(Some(SymbolTable {
+        file: &entry,
+        first: 0,
+        count: 1,
+        strings: &strings,
+    }));
+    let mut sink = MemorySink::new(Vec::new(alloc));
+    assert!(rt; put_list(alloc, &mut sink, &symbols).is_ok());
+    let front = "0123456789abcdef 18446744073709551615 a";
+    assert!(rt; sink.given().starts_with(front.as_bytes()));
+    assert!(rt; sink.given().ends_with("a\n".as_bytes()));
+    assert_eq!(rt; sink.given().len(), 70_039);
     Ok(())
 }

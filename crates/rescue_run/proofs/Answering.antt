@@ -75,7 +75,7 @@ memory_comes (Err refusal) handed sink sink' told is line still = record { outco
 memory_comes (Ok (task.Run start)) handed sink sink' told is line still = memory_run start handed sink sink' told is line still
 memory_comes (Ok (task.List symbols)) handed sink sink' told is line still = record {
   lists = subst (λ o. PutsList symbols o sink sink') (sym is)
-      (record { middle = sink; began = inl refl; told = subst (λ o. IsTold (line_of o) sink sink') is line });
+      (subst (λ o. IsTold (line_of o) sink sink') is line);
   still = still;
 }
 memory_comes (Ok (task.Load load)) handed sink sink' told is line still = memory_load load handed sink sink' told is line still

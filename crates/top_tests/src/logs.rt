@@ -32,12 +32,12 @@ fn assert_notes<K: Origin>(rt: &impl Abort, machine: Driven<K>) -> Result<(), Fa
         return Err(AllocError.into());
     };
     assert_eq!(rt; call.frames(), 1);
-    assert_eq!(rt; call.notes(0), 0);
+    assert_eq!(rt; call.notes(0).len(), 0);
     let Next::Active(call) = call.step() else {
         return Err(AllocError.into());
     };
     assert_eq!(rt; call.frames(), 1);
-    assert_eq!(rt; call.notes(0), 2);
+    assert_eq!(rt; call.notes(0).len(), 2);
     Ok(())
 }
 

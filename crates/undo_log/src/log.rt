@@ -122,6 +122,15 @@ impl Log {
         self.notes.len() as u64
     }
 
+    /// The notes from a position up to another; positions past the end have none.
+    pub fn between(&self, from: u64, to: u64) -> &[Note]
+        ensures value { result.now ≡ drop from (take to self.now.notes) }
+    {
+        let to = to.min(self.length());
+        let from = from.min(to);
+        &self.notes[from as usize..to as usize]
+    }
+
     /// Makes room for so many further notes. Room that is there stays, whatever the answer.
     pub fn reserve(&mut self, notes: u64) -> Result<(), MemoryWant>
         ensures same { self.new.notes ≡ self.old.notes }

@@ -1,40 +1,31 @@
-use Rattle.std.proofs.Common.{◌+◌, drop, map, string_bytes, rules, subst, arith}
+use Rattle.std.proofs.Common.{◌+◌, ◌++◌, drop, map, rules, subst}
 use Rattle.std.specs.List.{flat_map}
-use Rattle.std.proofs.lemmas.List.{drop_more, drop_all}
+use Rattle.std.proofs.lemmas.List.{drop_more}
 use Rattle.rescue_report.specs.List.{symbol_line, symbol_of}
-use Rattle.rescue_report.specs.ListPuts.{StopsList}
-use Rattle.rescue_report.proofs.ListPuts.{AreGathered, AreGathered-next, list_stopped, list_ended}
+use Rattle.rescue_report.specs.ListPuts.{BreaksFront, PutsFront}
+use Rattle.rescue_report.proofs.ListPuts.{BreaksFront-then, PutsFront-then}
 use Rattle.rescue_report.proofs.list_put.put_rows.Goals as goal
 
-pub returns-in_err-put_line_of : goal.returns-in_err-put_line_of
-returns-in_err-put_line_of g c = record {
-  puts = λ symbols order.
-      let rows = c.args.rows.now in
-      let stop : StopsList symbols c.in_err-put_line_of.field-0.0 (g.R.Sink.end c.args.sink.now) (g.R.Sink.end c.put_line_of.new.sink) =
-      list_stopped symbols (map symbol_of rows) (string_bytes c.loop-row.text) (flat_map symbol_line (map symbol_of (drop c.loop-row.row-index rows)))
-      c.in_err-put_line_of.field-0.0 (g.R.Sink.end c.args.sink.now) (g.R.Sink.end c.loop-row.sink) (g.R.Sink.end c.put_line_of.new.sink)
-      order c.loop-row.invariant c.in_err-put_line_of.ensures.stops in
-      search (rules, stop);
-}
+pub returns-in_err-put_row-clause-breaks : goal.returns-in_err-put_row-clause-breaks
+returns-in_err-put_row-clause-breaks g c =
+    let rows = c.args.rows.now in
+    let k = c.loop-row.row-index in
+    let all = c.args.gathered.now ++ flat_map symbol_line (map symbol_of rows) in
+    let breaks : BreaksFront all (g.R.Sink.end c.args.sink.now) (g.R.Sink.end c.put_row.new.sink) =
+    BreaksFront-then all c.loop-row.gathered _ (flat_map symbol_line (map symbol_of (drop (k + 1) rows)))
+    (g.R.Sink.end c.args.sink.now) (g.R.Sink.end c.loop-row.sink) (g.R.Sink.end c.put_row.new.sink)
+    (subst (λ xs. PutsFront all (c.loop-row.gathered ++ flat_map symbol_line (map symbol_of xs)) (g.R.Sink.end c.args.sink.now) (g.R.Sink.end c.loop-row.sink))
+    (drop_more rows k _ c.loop-row-test.true) c.loop-row.invariant)
+    c.in_err-put_row.ensures.breaks in
+    search (rules, breaks)
 
 pub loop-row-preserved : goal.loop-row-preserved
 loop-row-preserved g c =
     let rows = c.args.rows.now in
     let k = c.loop-row.row-index in
-    AreGathered-next (flat_map symbol_line (map symbol_of rows)) (string_bytes c.loop-row.text) _ (string_bytes c.put_line_of.new.text)
-    (flat_map symbol_line (map symbol_of (drop (k + 1) rows)))
-    (g.R.Sink.end c.args.sink.now) (g.R.Sink.end c.loop-row.sink) (g.R.Sink.end c.put_line_of.new.sink)
-    (subst (λ xs. AreGathered (flat_map symbol_line (map symbol_of rows)) (string_bytes c.loop-row.text) (flat_map symbol_line (map symbol_of xs)) (g.R.Sink.end c.args.sink.now) (g.R.Sink.end c.loop-row.sink))
+    let all = c.args.gathered.now ++ flat_map symbol_line (map symbol_of rows) in
+    PutsFront-then all c.loop-row.gathered _ (flat_map symbol_line (map symbol_of (drop (k + 1) rows)))
+    (g.R.Sink.end c.args.sink.now) (g.R.Sink.end c.loop-row.sink) (g.R.Sink.end c.put_row.new.sink) c.put_row.new.gathered
+    (subst (λ xs. PutsFront all (c.loop-row.gathered ++ flat_map symbol_line (map symbol_of xs)) (g.R.Sink.end c.args.sink.now) (g.R.Sink.end c.loop-row.sink))
     (drop_more rows k _ c.loop-row-test.true) c.loop-row.invariant)
-    c.in_ok-put_line_of.ensures.ok
-
-pub returns : goal.returns
-returns g c = record {
-  puts = λ symbols order.
-      let rows = c.args.rows.now in
-      list_ended symbols (map symbol_of rows) (string_bytes c.loop-row.text) (string_bytes c.put_gathered.new.text)
-      (g.R.Sink.end c.args.sink.now) (g.R.Sink.end c.loop-row.sink) (g.R.Sink.end c.put_gathered.new.sink) order
-      (subst (λ xs. AreGathered (flat_map symbol_line (map symbol_of rows)) (string_bytes c.loop-row.text) (flat_map symbol_line (map symbol_of xs)) (g.R.Sink.end c.args.sink.now) (g.R.Sink.end c.loop-row.sink))
-      (drop_all c.loop-row.row-index rows (omega (arith, c.loop-row-test.false))) c.loop-row.invariant)
-      c.put_gathered.result c.put_gathered.ensures.ok c.put_gathered.ensures.none c.put_gathered.ensures.stops;
-}
+    c.in_ok-put_row.ensures.ok

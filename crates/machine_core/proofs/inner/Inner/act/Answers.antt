@@ -1,4 +1,4 @@
-use Rattle.std.proofs.Common.{◌≡◌, ◌<◌, ◌++◌, ℕ, true, false, length, inl, inr, OnOk, OnErr, refl, ap, sym, ◌∙◌, subst, arith}
+use Rattle.std.proofs.Common.{◌≡◌, ◌+◌, ◌<◌, ◌≤◌, ◌++◌, ℕ, true, false, length, max, inl, inr, OnOk, OnErr, refl, ap, sym, ◌∙◌, subst, arith}
 use Rattle.guest_words.specs.Endings.{is_budget_spent}
 use Rattle.guest_words.specs.State.{State, frames_at}
 use Rattle.edge_ports.specs.DevicesMatch.{DevicesMatch}
@@ -7,6 +7,7 @@ use Rattle.run_history.specs.After.{ran}
 use Rattle.run_history.specs.LastEntry.{with_acts}
 use Rattle.run_history.specs.Legal.{can_run}
 use Rattle.run_history.proofs.RunSteps.{ran-none}
+use Rattle.hart_step.specs.Noted.{notes_for}
 use Rattle.hart_step.specs.Stops.{IsPlainRow, Stops, is_held}
 use Rattle.open_calls.specs.Nest.{Stack}
 use Rattle.machine_core.specs.Inner.{Holds, Inner, IsGoing, inner_of}
@@ -60,6 +61,12 @@ to g c = c.run-count.ensures.after ∙ ap (λ h. ran c.self.inside.engine.state 
 stays : (g : given.Over) (c : goal.After-put_run g) → StaysOpen (w g c).live.state (w g c).hart c.run-count.result.count
 stays g c = λ fewer less. (subst (λ h. IsPlainRow true c.self.inside.engine.state h c.run-count.result.count) (own g c) c.run-count.ensures.row fewer less).0
 
+few : (g : given.Over) (c : goal.After-put_run g) → length (v g c).notes ≤ length (w g c).notes + max (notes_for (w g c).live.state (w g c).hart) c.run-count.result.count
+few g c =
+    let more = c.run-count.ensures.few in
+    let same = ap length c.make_room.ensures.same in
+    omega (arith, more, same)
+
 pub invariant_of-self-then-count-gt0 : goal.invariant_of-self-then-count-gt0
 invariant_of-self-then-count-gt0 g c =
     acts_hold g.K.Origin.state g.K.Origin.devices (w g c) (v g c) c.self.inside.log c.run-count.new.log c.self.invariant (going g c) (fresh g c)
@@ -70,7 +77,7 @@ returns-then-count-gt0-clause-ok g c =
     let e = told g.S.Source.end g.T.Sink.end g.P.Port.end c.args.devices.now in
     subst (λ (x : Inner). Goes g.K.Origin.state x e (v g c) e) c.self.view_is
     (acts_goes g.K.Origin.state g.K.Origin.devices (w g c) (v g c) c.self.inside.log c.run-count.new.log c.self.invariant (going g c) (fresh g c)
-    c.run-count.result.count c.if-count-gt0.true (goes g c) (to g c) (puts_it g c) (stays g c) e)
+    c.run-count.result.count c.if-count-gt0.true (goes g c) (to g c) (puts_it g c) (stays g c) (few g c) e)
 
 -- the devices match by the records alone
 by_records : (told : Seen) (x y : Inner) (e : Seen) (n : ℕ) → y.live.state.records ≡ x.live.state.records → HasDevices told x e n → HasDevices told y e n

@@ -1,4 +1,4 @@
-use Rattle.std.proofs.Common.{◌≡◌, ◌<◌, ◌++◌, true, false, not, length, refl, ap, sym, ◌∙◌, subst, arith}
+use Rattle.std.proofs.Common.{◌≡◌, ◌+◌, ◌<◌, ◌≤◌, ◌++◌, true, false, not, length, max, refl, ap, sym, ◌∙◌, subst, arith}
 use Rattle.std.proofs.lemmas.Bool.{and_from}
 use Rattle.guest_words.specs.Act.{act_of}
 use Rattle.guest_words.specs.Endings.{is_budget_spent}
@@ -8,6 +8,7 @@ use Rattle.run_history.specs.After.{next, ran}
 use Rattle.run_history.specs.LastEntry.{with_acts}
 use Rattle.run_history.specs.Legal.{can_run, is_ordinary}
 use Rattle.run_history.proofs.RunSteps.{can_run-one, ran-none, ran-one}
+use Rattle.hart_step.specs.Noted.{notes_for}
 use Rattle.open_calls.specs.Nest.{Stack}
 use Rattle.machine_core.specs.Inner.{Inner, IsGoing, inner_of}
 use Rattle.machine_core.specs.OpenSteps.{StaysOpen}
@@ -56,6 +57,13 @@ stays g c = λ fewer less.
     let zero : fewer ≡ 0 = omega (arith, less) in
     ap (λ n. frames_at (ran (w g c).live.state (w g c).hart n) (w g c).hart) zero ∙ ap (λ (s : State). frames_at s (w g c).hart) (ran-none (w g c).live.state (w g c).hart)
 
+few : (g : given.Over) (c : goal.After-put_run g) → length (v g c).notes ≤ length (w g c).notes + max (notes_for (w g c).live.state (w g c).hart) 1
+few g c =
+    let more = c.advance.ensures.few in
+    let same = ap length c.make_room.ensures.same in
+    let own = ap (notes_for c.self.inside.engine.state) c.hart-hart.ensures.value in
+    omega (arith, more, same, own)
+
 pub invariant_of-self-2 : goal.invariant_of-self-2
 invariant_of-self-2 g c =
     acts_hold g.K.Origin.state g.K.Origin.devices (w g c) (v g c) c.self.inside.log c.advance.new.log c.self.invariant (going g c) (fresh g c) 1 (omega arith) (goes g c) (to g c) (puts_it g c)
@@ -63,7 +71,7 @@ invariant_of-self-2 g c =
 pub returns-clause-ok : goal.returns-clause-ok
 returns-clause-ok g c =
     subst (λ (x : Inner). (d : Seen) → Goes g.K.Origin.state x d (v g c) d) c.self.view_is
-    (acts_goes g.K.Origin.state g.K.Origin.devices (w g c) (v g c) c.self.inside.log c.advance.new.log c.self.invariant (going g c) (fresh g c) 1 (omega arith) (goes g c) (to g c) (puts_it g c) (stays g c))
+    (acts_goes g.K.Origin.state g.K.Origin.devices (w g c) (v g c) c.self.inside.log c.advance.new.log c.self.invariant (going g c) (fresh g c) 1 (omega arith) (goes g c) (to g c) (puts_it g c) (stays g c) (few g c))
 
 pub returns-clause-records : goal.returns-clause-records
 returns-clause-records g c =

@@ -38,6 +38,9 @@ pub returns-clause-none : goal.returns-clause-none
 returns-clause-none g c =
     ended_none g.K.Origin.state g.K.Origin.devices (w g c) (v g c) c.self.inside.log c.make_room.new.log c.self.invariant c.args.ending (ok g c) c.end.ensures.value (nest g c)
 
+pub returns-clause-notes : goal.returns-clause-notes
+returns-clause-notes g c = c.make_room.ensures.same ∙ ap (λ (x : Inner). x.notes) c.self.view_is
+
 pub returns-clause-plain : goal.returns-clause-plain
 returns-clause-plain g c = λ none d.
     let none_now = ap (λ (x : Inner). x.nest.outers) c.self.view_is ∙ none in

@@ -13,9 +13,10 @@ use Rattle.edge_ports.specs.Seen.{Seen}
 use Rattle.run_history.specs.Ahead.{ahead}
 use Rattle.run_history.proofs.Arrivals.{act_arrives}
 use Rattle.hart_step.specs.Live.{Live}
-use Rattle.open_calls.specs.Nest.{Nest, opened}
+use Rattle.open_calls.specs.Nest.{Nest, mark_in, opened}
 use Rattle.machine_core.specs.Inner.{Inner, IsGoing, inner_of, whole_in}
 use Rattle.machine_core.specs.OpenSteps.{EntersAt}
+use Rattle.machine_core.proofs.Growing.{unnoted_mark}
 use Rattle.machine_core.proofs.Opening.{entered_records, enters, enters_hold, enters_nearer}
 use Rattle.machine_core.proofs.inner.Inner.enter.Given as given
 use Rattle.machine_core.proofs.inner.Inner.enter.Goals as goal
@@ -85,6 +86,16 @@ pub returns-clause-records : goal.returns-clause-records
 returns-clause-records g c =
     ap (λ (l : Live). l.state.records) (live g c) ∙ entered_records (w g c).live.state (w g c).hart c.args.point
     ∙ ap (λ (x : Inner). x.live.state.records) c.self.view_is
+
+pub returns-clause-notes : goal.returns-clause-notes
+returns-clause-notes g c = c.make_room.ensures.same ∙ ap (λ (x : Inner). x.notes) c.self.view_is
+
+pub returns-clause-none : goal.returns-clause-none
+returns-clause-none g c =
+    let depth = ap (λ (n : Nest). length n.outers) (nest g c) in
+    let mark = ap mark_in (nest g c) in
+    let all = c.length-mark.ensures.value in
+    unnoted_mark (v g c).nest (v g c).notes (omega (arith, depth)) (omega (arith, mark, all))
 
 pub returns-clause-nearer : goal.returns-clause-nearer
 returns-clause-nearer g c =

@@ -1,10 +1,10 @@
-use Rattle.std.proofs.Common.{◌≡◌, ◌<◌, ◌∷◌, ◌++◌, [], false, drop, length, take, Some, refl, ap, sym, ◌∙◌, subst}
+use Rattle.std.proofs.Common.{◌≡◌, ◌<◌, ◌≤◌, ◌∷◌, ◌++◌, [], false, drop, length, take, Some, refl, ap, sym, ◌∙◌, subst, arith}
 use Rattle.guest_words.specs.Endings.{is_budget_spent}
 use Rattle.edge_ports.specs.Seen.{Seen}
 use Rattle.guest_memory.specs.Returning.{put_back}
 use Rattle.undo_log.specs.Noted.{Noted}
 use Rattle.undo_log.specs.Undo.{undone}
-use Rattle.std.proofs.lemmas.List.{append-nil}
+use Rattle.std.proofs.lemmas.List.{append-nil, length-take}
 use Rattle.run_history.specs.declared.entry.Entry.TheViews as entry
 use Rattle.run_history.specs.After.{rescued_from}
 use Rattle.run_history.specs.Ahead.{ahead}
@@ -14,7 +14,7 @@ use Rattle.open_calls.specs.Nest.{Level, Nest}
 use Rattle.open_calls.specs.Stacked.{brought_back}
 use Rattle.machine_core.specs.Inner.{Inner, IsGoing, IsUnderSame, inner_of, opened_in, whole_in}
 use Rattle.machine_core.specs.OpenSteps.{Erases}
-use Rattle.machine_core.proofs.Fails.{back_space, back_spare, before, can_return, erases, fails_hold, fails_nearer, fails_records, fails_under, gone_room, kept_count, left_log}
+use Rattle.machine_core.proofs.Fails.{back_space, back_spare, before, can_return, erases, fails_fewer, fails_hold, fails_nearer, fails_records, fails_under, gone_room, kept_count, left_log}
 use Rattle.machine_core.proofs.Holding.{Puts}
 use Rattle.machine_core.proofs.Making.{made}
 use Rattle.machine_core.proofs.inner.Inner.fail.Given as given
@@ -124,6 +124,18 @@ pub returns-clause-under : goal.returns-clause-under
 returns-clause-under g c =
     subst (λ (x : Inner). IsUnderSame x (v g c)) c.self.view_is
     (fails_under g.K.Origin.state g.K.Origin.devices (w-now g c) (v g c) c.self.inside.log c.take_back.new.log c.self.invariant (going-now g c) (fresh-now g c) c.args.fault (due-now g c) (o-now g c) c.take_back-inside.new.self.nest.outers (innermost-now g c) (live g c) (spare g c) (puts_it g c))
+
+pub returns-clause-fewer : goal.returns-clause-fewer
+returns-clause-fewer g c =
+    subst (λ (x : Inner). length (v g c).nest.outers ≤ length x.nest.outers) c.self.view_is
+    (fails_fewer g.K.Origin.state g.K.Origin.devices (w-now g c) (v g c) c.self.inside.log c.take_back.new.log c.self.invariant (going-now g c) (fresh-now g c) c.args.fault (due-now g c) (o-now g c) c.take_back-inside.new.self.nest.outers (innermost-now g c) (live g c) (spare g c) (puts_it g c))
+
+pub returns-clause-few : goal.returns-clause-few
+returns-clause-few g c =
+    let cut = ap length c.take_back.ensures.notes in
+    let less = length-take c.take_back-inside.result.mark c.self.inside.log.notes in
+    let old = ap (λ (x : Inner). length x.notes) c.self.view_is in
+    omega (arith, cut, less, old)
 
 pub returns-clause-records : goal.returns-clause-records
 returns-clause-records g c =

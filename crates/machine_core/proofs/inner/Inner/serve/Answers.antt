@@ -11,7 +11,7 @@ use Rattle.machine_core.specs.Kept.{HasDevices}
 use Rattle.machine_core.specs.QuietSteps.{CallsOn}
 use Rattle.machine_core.proofs.Asking.{asks, asks_devices, asks_hold, asks_nearer, holds_open}
 use Rattle.machine_core.proofs.Calls.{can_serve}
-use Rattle.machine_core.proofs.Holding.{Puts, puts_none, puts_under}
+use Rattle.machine_core.proofs.Holding.{Puts, puts_fewer, puts_none, puts_under}
 use Rattle.machine_core.proofs.Making.{made, some_calls}
 use Rattle.machine_core.proofs.inner.Inner.serve.Given as given
 use Rattle.machine_core.proofs.inner.Inner.serve.Goals as goal
@@ -99,6 +99,20 @@ pub returns-clause-nearer : goal.returns-clause-nearer
 returns-clause-nearer g c =
     subst (λ (x : Inner). ahead (v g c).live.state x.hart < ahead x.live.state x.hart) c.self.view_is
     (asks_nearer g.K.Origin.state g.K.Origin.devices (w g c) (v g c) c.self.inside.log c.answer.new.log c.self.invariant (going g c) (fresh g c) c.in_ok-call.call (fits_it g c) (to g c) (puts_it g c))
+
+pub returns-clause-fewer : goal.returns-clause-fewer
+returns-clause-fewer g c =
+    subst (λ (x : Inner). length (v g c).nest.outers ≤ length x.nest.outers) c.self.view_is
+    (puts_fewer (λ es. es ++ Called c.self.inside.calls.hart c.in_ok-call.call ∷ []) (w g c) (v g c) c.self.inside.log c.answer.new.log (puts_it g c))
+
+pub returns-clause-few : goal.returns-clause-few
+returns-clause-few g c =
+    let k = c.args.ask in
+    let more = c.answer.ensures.few in
+    let short = fits_short c.self.inside.engine.state k.way k.port k.asked k.place c.in_ok-call.call c.in_ok-call.ensures.fits in
+    let same = ap length c.make_room.ensures.same in
+    let old = ap (λ (x : Inner). length x.notes) c.self.view_is in
+    omega (arith, more, short, same, old)
 
 pub returns-clause-none : goal.returns-clause-none
 returns-clause-none g c = λ none.

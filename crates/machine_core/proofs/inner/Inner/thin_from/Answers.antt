@@ -1,4 +1,4 @@
-use Rattle.std.proofs.Common.{◌≡◌, ◌≤◌, ℕ, drop, take, sym, ap, ◌∙◌, subst, arith}
+use Rattle.std.proofs.Common.{◌≡◌, ℕ, drop, take, sym, ap, ◌∙◌, subst, arith}
 use Rattle.guest_memory.specs.Kept.{AddressSpace}
 use Rattle.guest_memory.specs.Returning.{put_back}
 use Rattle.undo_log.specs.Undo.{undone}

@@ -2,14 +2,29 @@ use Rattle.std.proofs.Common.{◌≡◌, ◌<◌, ◌++◌, false, length, Ok, E
 use Rattle.std.specs.declared.result.Result.{Result}
 use Rattle.edge_ports.specs.Seen.{seen as told}
 use Rattle.open_calls.specs.Nest.{flat, flat_from, lowest}
-use Rattle.machine_core.specs.Inner.{opened_in, whole_in}
+use Rattle.machine_core.specs.Inner.{Inner, opened_in, whole_in}
 use Rattle.machine_core.specs.Machine.{Opened}
+use Rattle.machine_core.specs.OpenSteps.{StaysUnder}
 use Rattle.machine_core.proofs.Appending.{open_appends}
+use Rattle.machine_core.proofs.Steps.{stays_under}
 use Rattle.machine_core.proofs.machine.Active.step.Goals as goal
 
 went : {A E : Type 0} (r : Result A E) (P : Type 0) → is_err r ≡ false → OnOk r P → P
 went (Ok x) P is p = p
 went (Err e) P is p = cc
+
+pub returns-then-is_under-clause-goes : goal.returns-then-is_under-clause-goes
+returns-then-is_under-clause-goes g c =
+    let now = c.as_mut-parts.result.now in
+    let start = g.K.Origin.state in
+    let v = c.go.new.self in
+    let d = told g.S.Source.end g.T.Sink.end g.P.Port.end now.devices in
+    let e = told g.S.Source.end g.T.Sink.end g.P.Port.end c.go.new.devices in
+    let is : opened_in now.inner d ≡ c.args.self = ap (λ x. opened_in x.inner (told g.S.Source.end g.T.Sink.end g.P.Port.end x.devices)) c.as_mut-parts.ensures.value ∙ c.self.view_is in
+    let goes = went c.go.result _ (sym c.is_err.ensures.value ∙ c.if-is_err.false) c.go.ensures.ok in
+    let stays = stays_under start now.inner v d e c.thin.new.self.notes goes (c.is_under.ensures.going c.if-is_under.true) (c.is_under.ensures.open c.if-is_under.true) c.thin.ensures.fewer in
+    subst (λ (x : Opened). StaysUnder start x (opened_in c.thin.new.self e)) is
+    (subst (λ (x : Inner). StaysUnder start (opened_in now.inner d) (opened_in x e)) (sym c.thin.ensures.same) stays)
 
 pub returns-clause-behind : goal.returns-clause-behind
 returns-clause-behind g c =

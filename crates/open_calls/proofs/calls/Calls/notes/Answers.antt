@@ -1,4 +1,4 @@
-use Rattle.std.proofs.Common.{◌≡◌, ◌+◌, ◌-◌, ◌≤◌, ◌<◌, suc, length, Some, ap, sym, ◌∙◌, slice_get, arith}
+use Rattle.std.proofs.Common.{◌≡◌, ◌+◌, ◌≤◌, ◌<◌, suc, drop, length, take, Some, ap, sym, ◌∙◌, slice_get, arith}
 use Rattle.std.proofs.lemmas.Bool.Decides.{nat_tests}
 use Rattle.std.proofs.lemmas.Option.{slice_get-get_or}
 use Rattle.open_calls.specs.Nest.{Stack, notes_in}
@@ -20,6 +20,7 @@ pub returns-in-Some-get : goal.returns-in-Some-get
 returns-in-Some-get c =
     let os = c.self.inside.outers.items in
     let k = c.args.frame in
+    let ns = c.args.log.now.notes in
     let o = c.in-Some.outer.now in
     let p = c.in-Some-get.next.now in
     let lookup = c.in-Some.ensures.lookup.0 in
@@ -32,16 +33,17 @@ returns-in-Some-get c =
     let next : slice_get os (suc k) ≡ Some p =
     ap (slice_get os) more ∙ ap (λ xs. slice_get xs (k + 1)) (sym c.deref-2.ensures.value) ∙ slice_get-get_or c.deref-2.result.now (k + 1) p next_within ∙ ap Some (sym c.in-Some-get.ensures.lookup.1) in
     record {
-      value = c.saturating_sub.ensures
-          ∙ ap (λ q. end_by q c.args.all - o.mark) (sym next)
-          ∙ sym (notes_at c.self.inside.top os k c.args.all o is)
-          ∙ ap (λ (s : Stack). notes_in k c.args.all s.nest) c.self.view_is;
+      value = c.between.ensures.value
+          ∙ ap (λ q. drop o.mark (take (end_by q (length ns)) ns)) (sym next)
+          ∙ sym (notes_at c.self.inside.top os k ns o is)
+          ∙ ap (λ (s : Stack). notes_in k ns s.nest) c.self.view_is;
     }
 
 pub returns-in-None : goal.returns-in-None
 returns-in-None c =
     let os = c.self.inside.outers.items in
     let k = c.args.frame in
+    let ns = c.args.log.now.notes in
     let o = c.in-Some.outer.now in
     let lookup = c.in-Some.ensures.lookup.0 in
     let within : k < length c.deref.result.now = grind (arith, nat_tests, lookup) in
@@ -51,8 +53,8 @@ returns-in-None c =
     let next_past : length c.deref-2.result.now ≤ k + 1 = grind (arith, nat_tests, next_lookup) in
     let long = ap length c.deref-2.ensures.value in
     record {
-      value = c.saturating_sub-in-None.ensures
-          ∙ ap (λ n. n - o.mark) (sym (end_none os (suc k) c.args.all (omega (arith, next_past, long))))
-          ∙ sym (notes_at c.self.inside.top os k c.args.all o is)
-          ∙ ap (λ (s : Stack). notes_in k c.args.all s.nest) c.self.view_is;
+      value = c.between-in-None.ensures.value
+          ∙ ap (λ n. drop o.mark (take n ns)) (c.length.ensures.value ∙ sym (end_none os (suc k) (length ns) (omega (arith, next_past, long))))
+          ∙ sym (notes_at c.self.inside.top os k ns o is)
+          ∙ ap (λ (s : Stack). notes_in k ns s.nest) c.self.view_is;
     }
