@@ -8,18 +8,3 @@ pub trait Change {
     fn changed(&self, old: u64) -> u64
         ensures value { result ≡ changed self.now old };
 }
-
-/// A number, whatever stood there.
-#[derive(Drop)]
-pub struct Put {
-    pub value: u64,
-}
-
-impl Change for Put {
-    ghost changed = { λ put old. put.value };
-
-    #[inline(always)]
-    fn changed(&self, _old: u64) -> u64 {
-        self.value
-    }
-}
