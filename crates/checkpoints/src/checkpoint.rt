@@ -1,22 +1,22 @@
 ghost use Rattle.std.specs.Prelude.{◌≡◌, IfOk};
 
-use futex_table::Queue;
-use guest_atomics::Harts;
+use futex_table::{KeptQueue, Queue};
+use guest_atomics::{Harts, KeptHarts};
 use guest_words::MemoryWant;
 use std::alloc::Global;
 
 /// What a rescue puts back, but for memory, and how many records there were.
 #[derive(Drop)]
 pub struct Checkpoint {
-    pub harts: Harts,
-    pub queue: Queue,
+    pub harts: KeptHarts,
+    pub queue: KeptQueue,
     /// The number of calls on devices before.
     pub records: u64,
     pub next_tid: u32,
 }
 
 impl Checkpoint {
-    /// Equal copies of the harts and of the waiting list, with the two numbers.
+    /// The harts and the waiting list, kept, with the two numbers.
     pub fn of(
         alloc: Global,
         harts: &Harts,
@@ -30,8 +30,8 @@ impl Checkpoint {
         ensures next_tid { IfOk result (λ kept. kept.next_tid ≡ next_tid) }
     {
         Ok(Checkpoint {
-            harts: harts.copy(alloc)?,
-            queue: queue.copy(),
+            harts: harts.keep(alloc)?,
+            queue: queue.keep(alloc)?,
             records,
             next_tid,
         })

@@ -1,39 +1,34 @@
 use crate::Checkpoint;
 use futex_table::Queue;
 use guest_atomics::Harts;
-use guest_words::{Hart, HartState, MemoryWant, Waiter};
-use std::alloc::Global;
+use guest_words::{Hart, HartState, Waiter};
 use std::test::Fail;
 
 const WAITER: Waiter = Waiter {
-    slot: 1,
+    slot: 0,
     place: 0x20000,
 };
 
-fn waiting_hart(alloc: Global) -> Result<Harts, MemoryWant> {
-    let mut items = Vec::new(alloc);
-    items.push(Hart {
-        pc: 0x10000,
-        regs: [0; 32],
-        arrived: false,
-        reservation: None,
+fn waiting_hart() -> Hart {
+    Hart {
         state: HartState::Waiting(WAITER.place),
-        tid: 2,
-        clear: 0,
-    })?;
-    Ok(Harts::of(items))
+        tid: 1,
+        ..Hart::EMPTY
+    }
 }
 
 #[test]
-fn copies_are_kept(rt: HostRuntime) -> Result<(), Fail> {
-    let mut harts = waiting_hart(rt.alloc())?;
+fn kept_values_are_put_back(rt: HostRuntime) -> Result<(), Fail> {
+    let mut harts = Harts::start(rt.alloc(), waiting_hart(), 2)?;
     let mut queue = Queue::new();
     queue.enqueue(WAITER.slot, WAITER.place);
     let kept = Checkpoint::of(rt.alloc(), &harts, &queue, 4, 3)?;
     queue.wake(WAITER.place, 1);
-    harts.clear_all();
-    assert_eq!(rt; kept.queue.waiter(0), Some(WAITER));
-    assert!(rt; kept.harts.items() == harts.items());
+    harts.hart_mut(0).state = HartState::Ready;
     assert!(rt; kept.records == 4 && kept.next_tid == 3);
+    queue.restore(kept.queue);
+    harts.put_back(kept.harts);
+    assert_eq!(rt; queue.waiter(0), Some(WAITER));
+    assert!(rt; harts.items() == [waiting_hart(), Hart::EMPTY].as_slice());
     Ok(())
 }

@@ -1,11 +1,13 @@
-ghost use Rattle.std.specs.Prelude.{◌≡◌, ◌<◌, false, [], ◌∷◌, ◌++◌, IsTrue, ◌↔◌, length, slice_get};
+ghost use Rattle.std.specs.Prelude.{◌≡◌, ◌<◌, false, [], ◌∷◌, ◌++◌, IsTrue, ◌↔◌, length, slice_get, IfOk};
 ghost use Rattle.guest_words.specs.CallChanges.{woken, unwoken};
 ghost use Rattle.guest_words.specs.declared.limits.TheConstants.{HARTS};
 ghost use Rattle.futex_table.specs.Slots.{has_slot, HasOwnSlots, MarksSlots};
 
+use crate::kept::KeptQueue;
 use crate::waking::{keep_unwoken, woken_of};
 use crate::woken::Woken;
-use guest_words::{Waiter, limits};
+use guest_words::{MemoryWant, Waiter, limits};
+use std::alloc::Global;
 use std::marker::Model;
 
 /// One for each hart.
@@ -89,11 +91,18 @@ impl Queue {
         woken
     }
 
-    /// Makes the waiters those of another queue.
-    pub fn restore(&mut self, kept: Queue)
+    /// Keeps the waiters.
+    pub fn keep(&self, alloc: Global) -> Result<KeptQueue, MemoryWant>
+        ensures ok { IfOk result (λ kept. kept ≡ self.now) }
+    {
+        KeptQueue::of(alloc, &self.waiters[..self.count])
+    }
+
+    /// Makes the waiters those that were kept. Takes no memory.
+    pub fn restore(&mut self, kept: KeptQueue)
         ensures value { self.new ≡ kept }
     {
-        *self = kept;
+        self.count = kept.put_back(&mut self.waiters);
     }
 
     /// An equal queue.

@@ -1,5 +1,6 @@
 use crate::Queue;
 use guest_words::Waiter;
+use std::test::Fail;
 
 const PLACE: u64 = 0x20000;
 
@@ -30,11 +31,22 @@ fn the_longest_waiting_are_woken(rt: HostRuntime) {
 }
 
 #[test]
-fn a_kept_queue_is_restored(rt: HostRuntime) {
+fn a_kept_queue_is_restored(rt: HostRuntime) -> Result<(), Fail> {
     let mut queue = four_waiters();
-    let kept = queue.copy();
+    let kept = queue.keep(rt.alloc())?;
     queue.wake(PLACE, 4);
+    assert_eq!(rt; kept.waiter(1), waiter(4, PLACE));
     queue.restore(kept);
-    assert!(rt; !queue.is_empty());
+    assert_eq!(rt; queue.len(), 4);
     assert_eq!(rt; queue.waiter(3), waiter(2, PLACE));
+    Ok(())
+}
+
+#[test]
+fn where_none_wait_none_are_kept(rt: HostRuntime) -> Result<(), Fail> {
+    let kept = Queue::new().keep(rt.alloc())?;
+    let mut queue = four_waiters();
+    queue.restore(kept);
+    assert!(rt; queue.is_empty());
+    Ok(())
 }

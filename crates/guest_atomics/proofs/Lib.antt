@@ -1,3 +1,3 @@
 mod EachHart
+mod EmptyHarts
 mod FreeHarts
-mod IdleHarts

@@ -1,13 +1,15 @@
-ghost use Rattle.std.specs.Prelude.{◌≡◌, ◌<◌, ◌≤◌, true, false, map, length, slice_get, IfOk};
+ghost use Rattle.std.specs.Prelude.{◌≡◌, ◌-◌, ◌<◌, ◌∷◌, true, false, map, length, replicate};
+ghost use Rattle.std.specs.Prelude.{slice_get, IfOk};
 ghost use Rattle.std.specs.List.{All};
 ghost use Rattle.std.specs.Borrow.{sem};
-ghost use Rattle.guest_words.specs.Harts.{is_ready, touched, unreserved};
+ghost use Rattle.guest_words.specs.Harts.{touched, unreserved};
+ghost use Rattle.guest_words.specs.Start.{empty_hart};
 ghost use Rattle.guest_atomics.specs.Free.{IsFree, IsFreeAt, IsFreeBut};
 ghost use Rattle.guest_atomics.specs.Idle.{IsIdleFrom};
 ghost use Rattle.guest_atomics.specs.Lending.{LendsHart};
 
 use crate::reservation::{release, touch};
-use guest_words::{Hart, HartState, MemoryWant};
+use guest_words::{Hart, MemoryWant};
 use std::alloc::Global;
 use std::marker::Model;
 
@@ -16,13 +18,13 @@ use std::marker::Model;
 /// ones need not look at each slot.
 #[derive(Drop)]
 pub struct Harts {
-    items: Vec<Hart>,
+    pub(crate) items: Vec<Hart>,
     /// The slot that was lent last, whose hart may have any reservation.
-    lent: usize,
+    pub(crate) lent: usize,
     /// Whether another hart may have a reservation.
-    others: bool,
-    /// No hart is ready from this slot on; the one that was lent last stands before it.
-    used: usize,
+    pub(crate) others: bool,
+    /// All slots are empty from this one on; the one that was lent last stands before it.
+    pub(crate) used: usize,
 }
 
 impl Model for Harts {
@@ -44,13 +46,28 @@ impl Harts {
         ensures list { result ≡ items.items }
     {
         let others = any_reservation(&items);
-        let used = ready_end(&items).max(1);
+        let used = items.len().max(1);
         Harts {
             items,
             lent: 0,
             others,
             used,
         }
+    }
+
+    /// So many slots, but at least one: a hart in the first, and all others empty.
+    pub fn start(alloc: Global, first: Hart, count: usize) -> Result<Harts, MemoryWant>
+        ensures ok { IfOk result (λ harts. harts ≡ first ∷ replicate (count - 1) empty_hart) }
+    {
+        let mut items = Vec::new(alloc);
+        items.push(first)?;
+        items.resize(count.max(1), Hart::EMPTY)?;
+        Ok(Harts {
+            items,
+            lent: 0,
+            others: false,
+            used: 1,
+        })
     }
 
     /// The harts, by slot.
@@ -151,29 +168,6 @@ fn any_reservation(harts: &[Hart]) -> bool
     ensures none { result ≡ false → All IsFree harts.now }
 {
     harts.iter().any(|hart| hart.reservation.is_some())
-}
-
-/// The slot behind the last ready hart; 0 where none is ready.
-fn ready_end(harts: &[Hart]) -> usize
-    ensures idle { IsIdleFrom result harts.now }
-    ensures within { result ≤ length harts.now }
-{
-    let mut end = 0;
-    for slot in 0..harts.len() {
-        if is_ready(&harts[slot]) {
-            end = slot + 1;
-        }
-    }
-    end
-}
-
-fn is_ready(hart: &Hart) -> bool
-    ensures value { result ≡ is_ready hart.now.state }
-{
-    match hart.state {
-        HartState::Ready => true,
-        _ => false,
-    }
 }
 
 fn end_touched(harts: &mut Vec<Hart>, address: u64, size: u64)

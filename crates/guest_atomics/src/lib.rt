@@ -2,6 +2,7 @@
 #![tactic(auto)]
 
 mod harts;
+mod kept;
 mod operation;
 mod readings;
 mod reservation;
@@ -9,5 +10,6 @@ mod reservation;
 mod tests;
 
 pub use harts::Harts;
+pub use kept::KeptHarts;
 pub use operation::amo;
 pub use reservation::{holds, touch};

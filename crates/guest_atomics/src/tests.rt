@@ -119,3 +119,16 @@ fn entering_ends_reservations(rt: HostRuntime) -> Result<(), Fail> {
     assert!(rt; is_reserved(&copy, Width::Four) && !is_reserved(&harts, Width::Four));
     Ok(())
 }
+
+/// Three slots, of which the second got its hart after the harts were kept.
+#[test]
+fn kept_harts_are_put_back(rt: HostRuntime) -> Result<(), Fail> {
+    let mut harts = Harts::start(rt.alloc(), hart(1), 3)?;
+    let kept = harts.keep(rt.alloc())?;
+    *harts.hart_mut(1) = hart(2);
+    assert_eq!(rt; harts.used(), 2);
+    harts.put_back(kept);
+    assert!(rt; harts.items() == [hart(1), Hart::EMPTY, Hart::EMPTY].as_slice());
+    assert_eq!(rt; harts.used(), 1);
+    Ok(())
+}

@@ -11,7 +11,7 @@ ghost use Rattle.hart_slots.specs.Rejoined.{hart_of, rejoined, reopened};
 use crate::Slots;
 use crate::frames::{keep_at, push_at};
 use crate::harts::put_at;
-use guest_atomics::Harts;
+use guest_atomics::KeptHarts;
 use guest_words::{Frame, Hart, MemoryWant, PointRef};
 use point_frames::closed_after;
 
@@ -90,11 +90,11 @@ impl Slots {
     }
 
     /// Puts kept harts back, and drops the innermost frame of one.
-    pub fn put_back(&mut self, h: u8, kept: Harts)
+    pub fn put_back(&mut self, h: u8, kept: KeptHarts)
         requires count { length kept ≡ length self.old }
         ensures value { self.new ≡ changed reopened h (rejoined kept self.old) }
     {
-        self.harts = kept;
+        self.harts.put_back(kept);
         let count = self.frames(h).len();
         self.keep_frames(h, count.saturating_sub(1));
     }

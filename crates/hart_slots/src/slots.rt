@@ -1,6 +1,6 @@
-ghost use Rattle.std.specs.Prelude.{◌≡◌, ◌-◌, ◌≤◌, [], ◌∷◌, replicate, IfOk};
+ghost use Rattle.std.specs.Prelude.{◌≡◌, ◌≤◌, [], replicate, IfOk};
 ghost use Rattle.guest_words.specs.declared.limits.TheConstants.{HARTS};
-ghost use Rattle.guest_words.specs.Start.{empty_hart, first_hart, start_slots};
+ghost use Rattle.guest_words.specs.Start.{first_hart, start_slots};
 
 use guest_atomics::Harts;
 use guest_words::abi::SP;
@@ -39,7 +39,7 @@ impl Slots {
         ensures ok { IfOk result (λ slots. slots ≡ start_slots entry harts) }
     {
         Ok(Slots {
-            harts: Harts::of(first_harts(alloc, entry, harts)?),
+            harts: Harts::start(alloc, first(entry), usize::from(harts))?,
             frames: no_frames(alloc, harts)?,
         })
     }
@@ -64,19 +64,6 @@ fn first(entry: u64) -> Hart
     hart.state = HartState::Ready;
     hart.tid = 1;
     hart
-}
-
-fn first_harts(alloc: Global, entry: u64, count: u8) -> Result<Vec<Hart>, MemoryWant>
-    requires some { 1 ≤ count }
-    ensures ok { IfOk result (λ harts.
-        harts.items ≡ first_hart entry ∷ replicate (count - 1) empty_hart) }
-{
-    let mut harts = Vec::new(alloc);
-    harts.push(first(entry))?;
-    for _ in 1..count {
-        harts.push(Hart::EMPTY)?;
-    }
-    Ok(harts)
 }
 
 fn no_frames(alloc: Global, count: u8) -> Result<Vec<Frames>, MemoryWant>

@@ -42,8 +42,12 @@ inactive-spent (p ∷ points) entry pc is = by (is_active p && (p.entry == pc)) 
 
 pub table-spent : (m : Space) (points : List Point) (entry : ℕ) (table : List Known) → IsTable m points table → IsTable m (spent points entry) table
 table-spent m points entry table is =
-    record { long = is.long; tells = λ k d less at. record { inst = (is.tells k d less at).inst; free = inactive-spent points entry _ (is.tells k d less at).free } }
+    record { long = is.long; tells = λ k d less at. record { inst = (is.tells k d less at).inst; free = inactive-spent points entry _ (is.tells k d less at).free }; first = is.first }
 
 pub table-text : (m n : Space) (points : List Point) (table : List Known) → SameText m n → IsTable m points table → IsTable n points table
 table-text m n points table same is =
-    record { long = is.long; tells = λ k d less at. record { inst = same (get_or table k d).pc ∙ (is.tells k d less at).inst; free = (is.tells k d less at).free } }
+    record {
+      long = is.long;
+      tells = λ k d less at. record { inst = same (get_or table k d).pc ∙ (is.tells k d less at).inst; free = (is.tells k d less at).free };
+      first = λ d whole. same (get_or table 4096 d).pc ∙ is.first d whole;
+    }

@@ -22,9 +22,10 @@ use Rattle.hart_slots.specs.Rejoined.{hart_of}
 use Rattle.run_history.specs.Legal.{is_ready_at, is_ready_slot}
 use Rattle.hart_step.specs.InARow.{Lone, act_at, after_acts, lone}
 use Rattle.hart_step.specs.InPlace.{memory_after}
-use Rattle.hart_step.specs.Legs.{HasRun, IsLeg}
+use Rattle.hart_step.specs.declared.did.Did.{Did}
+use Rattle.hart_step.specs.Legs.{did_at, HasRun, IsLeg}
 use Rattle.hart_step.specs.Live.{IsHeapClear, Waits, WaitsAt}
-use Rattle.hart_step.proofs.Rows.{changed_is, closed_standing, in_row, leg_row, row_closed, row_end, row_end_is, row_open, standing}
+use Rattle.hart_step.proofs.Rows.{changed_is, closed_standing, in_row, leg_row, row_closed, row_did, row_end, row_end_is, row_open, standing}
 
 -- stores leave the heap as it is, and the breaks
 
@@ -82,10 +83,11 @@ waits_after slots h slot new waiting at ready waits =
     (waits_set (map hart_of slots) h slot.hart new.hart waiting (slice_get-map hart_of slots h ∙ ap (option_map hart_of) at) ready waits)
 
 -- what a row of instructions leaves
-pub record Hurried (noted : Bool) (s : State) (h n : ℕ) (done : Bool) (old after : AddressSpace) (new : State) : Type 0 where
+pub record Hurried (noted : Bool) (s : State) (h n most : ℕ) (done : Bool) (did : Did) (old after : AddressSpace) (new : State) : Type 0 where
   pub leg : IsLeg noted s new h n
   pub stays : done ≡ false → frames_at new h ≡ frames_at s h
   pub over : done ≡ true → frames_at new h < frames_at s h
+  pub stops : done ≡ false → n < most → did_at new h ≡ Some did
   pub heap : IsHeapClear old → IsHeapClear after
   pub waits : Waits s.waiting (map hart_of s.slots) → Waits s.waiting (map hart_of new.slots)
 
@@ -103,11 +105,11 @@ module _ (s : State) (h n : ℕ) (old new : AddressSpace) (mid : List Slot) wher
       subst (λ slots. Waits s.waiting (map hart_of slots)) (sym (ap (changed closed h) put ∙ closed_standing s h slot at hart)) (waits_after s.slots h slot (closed (standing slot hart)) s.waiting at own waits)
   waits_row slot hart false at own put waits = subst (λ slots. Waits s.waiting (map hart_of slots)) (sym put) (waits_after s.slots h slot (standing slot hart) s.waiting at own waits)
 
-  pub hurried : (noted done : Bool) (last : List Slot) (points : List Point) (k : ℕ) → old.space ≡ s.memory → old.low ≡ s.low → old.brk ≡ s.brk → is_ready_at s h ≡ true → is_budget_spent s ≡ false
-      → IsFreeBut h (map hart_of s.slots) → s.steps + n ≤ s.budget → HasRun s.points h s.slots mid old new n done → last ≡ last_slots done → points ≡ s.points → k ≡ n
-      → Hurried noted s h n done old new (after_row last points k)
+  pub hurried : (noted done : Bool) (did : Did) (last : List Slot) (points : List Point) (k most : ℕ) → old.space ≡ s.memory → old.low ≡ s.low → old.brk ≡ s.brk → is_ready_at s h ≡ true → is_budget_spent s ≡ false
+      → IsFreeBut h (map hart_of s.slots) → s.steps + n ≤ s.budget → HasRun s.points h s.slots mid old new n most done did → last ≡ last_slots done → points ≡ s.points → k ≡ n
+      → Hurried noted s h n most done did old new (after_row last points k)
   unfolding in_row row_end
-  hurried noted done last points k memory low brk ready left free within run lasts same_points count =
+  hurried noted done did last points k most memory low brk ready left free within run lasts same_points count =
       let slot = run.slot in
       let at = run.at in
       let start = lone slot.hart old in
@@ -128,6 +130,8 @@ module _ (s : State) (h n : ℕ) (old new : AddressSpace) (mid : List Slot) wher
         over = λ is.
             subst (λ (t : State). frames_at t h < frames_at s h) (sym (there ∙ ap (row_end s h slot at free start refl memory own left end n) is))
             (row_closed s h slot at free start refl memory own left end n ((run.row.closes is).over));
+        stops = λ is more.
+            ap (λ (t : State). did_at t h) (there ∙ ap (row_end s h slot at free start refl memory own left end n) is) ∙ row_did s h slot at free start refl memory own left end n ∙ ap Some (sym (run.stops is more));
         heap = λ clear. subst IsHeapClear (sym memory_is) (kept.clear clear);
         waits = λ waits. subst (λ slots. Waits s.waiting (map hart_of slots)) (sym lasts) (waits_row slot run.end done at own put waits);
       }

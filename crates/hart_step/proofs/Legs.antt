@@ -1,8 +1,11 @@
 -- Parts of a row of acts.
-use Rattle.std.proofs.Common.{◌≡◌, ℕ, ◌+◌, ◌-◌, ◌<◌, ◌≤◌, Bool, true, false, not, length, slice_get, Option, Some, None, refl, ap, sym, ◌∙◌, subst, arith, inl, inr}
+use Rattle.std.proofs.Common.{◌≡◌, ℕ, ◌+◌, ◌-◌, ◌<◌, ◌≤◌, Bool, true, false, not, length, slice_get, Option, Some, None, option_map, refl, ap, sym, ◌∙◌, subst, arith, inl, inr}
 use Rattle.std.proofs.lemmas.Bool.{and_from, or_parts}
 use Rattle.std.proofs.lemmas.Bool.Decides.{leb_tells}
 use Rattle.std.proofs.lemmas.Option.{slice_get_within}
+use Rattle.guest_words.specs.declared.act.Act.{Act}
+use Rattle.guest_words.specs.declared.act.Act.TheVariants as act
+use Rattle.guest_words.specs.declared.fault.FaultName.{FaultName}
 use Rattle.guest_words.specs.declared.hart.Slot.{Slot}
 use Rattle.guest_words.specs.Act.{StateAct, Ordinary, Fault, Request, Arrival, End, Absent, act_of}
 use Rattle.guest_words.specs.Endings.{is_budget_spent}
@@ -13,9 +16,13 @@ use Rattle.run_history.proofs.FewerFrames.{next_fewer}
 use Rattle.run_history.proofs.RunSteps.{can_run-both, can_run-none, can_run-one, ran-both, ran-none, ran-one}
 use Rattle.hart_step.specs.declared.next_act.NextAct.{NextAct}
 use Rattle.hart_step.specs.declared.next_act.NextAct.TheVariants as next_act
-use Rattle.hart_step.specs.Legs.{IsLeg}
+use Rattle.hart_step.specs.declared.did.Did.TheVariants as did
+use Rattle.hart_step.specs.InPlace.{did_of}
+use Rattle.hart_step.specs.Legs.{did_at, IsLeg}
 use Rattle.hart_step.specs.Sees.{is_ordinary_act, named, Sees}
+use Rattle.hart_step.specs.SlotActs.{act_at}
 use Rattle.hart_step.specs.Stops.{is_held, wants_memory, Stops, StopsAt}
+use Rattle.hart_step.proofs.SlotActs.{act_of-at}
 
 -- a hart that isn't held is ready, and the budget isn't spent
 pub free_ready : (s : State) (h : ℕ) → is_held s h ≡ false → is_ready_at s h ≡ true
@@ -118,3 +125,17 @@ pub stops_whole : (noted : Bool) (s t u : State) (h : ℕ) (next : Option NextAc
 stops_whole noted s t u h None same (inl held) = inl held
 stops_whole noted s t u h None same (inr fewer) = inr (omega (arith, same, fewer))
 stops_whole noted s t u h (Some is) same stops = stops
+
+-- a hart that meets a fault next is seen to
+pub fault_next : (s : State) (h : ℕ) (name : FaultName) → did_at s h ≡ Some (did.Fault name) → Sees s h (next_act.Fault name)
+fault_next s h name is = by (act_at s h) refl is
+  where
+    by : (o : Option Act) → act_at s h ≡ o → option_map did_of o ≡ Some (did.Fault name) → Sees s h (next_act.Fault name)
+    by None at e = absurd (cc)
+    by (Some (act.Next hart None)) at e = absurd (cc)
+    by (Some (act.Next hart (Some write))) at e = absurd (cc)
+    by (Some (act.Fault other)) at e =
+        let same : other ≡ name = cc in
+        ap named (act_of-at s h (act.Fault other) at) ∙ ap (λ (n : FaultName). Some (next_act.Fault n)) same
+    by (Some (act.Call call)) at e = absurd (cc)
+    by (Some (act.Arrived point)) at e = absurd (cc)

@@ -1,5 +1,5 @@
 -- What is at a place of the table, and what a hart does that carries out no instruction.
-use Rattle.std.proofs.Common.{◌≡◌, ◌∙◌, ℕ, ◌<◌, true, false, List, length, get_or, set, slice_index_or, slice_set, Option, Some, None, Ok, Err, refl, sym, ap, subst, arith, inl, inr, length-set, get_or-set_other, get_or-set_same}
+use Rattle.std.proofs.Common.{◌≡◌, ◌∙◌, ℕ, ◌<◌, true, false, List, length, get_or, set, slice_index_or, slice_set, Option, Some, None, Err, refl, sym, ap, subst, arith, inl, inr, length-set, get_or-set_other, get_or-set_same}
 use Rattle.std.specs.Option.{is_some}
 use Rattle.std.proofs.lemmas.Bool.Decides.{eqb_tells}
 use Rattle.std.proofs.lemmas.List.{get_or_default}
@@ -7,20 +7,31 @@ use Rattle.guest_words.specs.declared.point.Point.{Point}
 use Rattle.guest_words.specs.declared.point.PointRef.{PointRef}
 use Rattle.guest_words.specs.declared.fault.FaultName.{FaultName}
 use Rattle.guest_words.specs.declared.hart.Hart.{Hart}
-use Rattle.guest_words.specs.declared.inst.Inst.{Inst}
 use Rattle.guest_words.specs.declared.act.Act.{Act}
 use Rattle.guest_words.specs.Points.{active_at}
 use Rattle.guest_words.specs.Space.{Space}
 use Rattle.guest_memory.specs.Kept.{AddressSpace}
-use Rattle.guest_words.specs.Instructions.{NamesRegisters}
-use Rattle.guest_words.specs.HartAct.{act_of_class, arrival_of, hart_act, inst_at}
-use Rattle.guest_words.specs.Effects.{class_of}
+use Rattle.guest_words.specs.HartAct.{arrival_of, inst_at}
 use Rattle.hart_step.specs.declared.known.Known.{Known}
 use Rattle.hart_step.specs.declared.did.Did.TheVariants as did
 use Rattle.hart_step.specs.InPlace.{parts, IsMade}
 use Rattle.hart_step.specs.Looked.{looked}
-use Rattle.hart_step.specs.Table.{place_of, IsFor, IsPlaced, IsStill, IsTable, Tells}
-use Rattle.hart_step.proofs.Acting.{act_arrived, act_fault, act_inst, inst_at-looked, looked-inst_at, none_arrives, registers-inst_at}
+use Rattle.hart_step.specs.Table.{place_of, IsFetched, IsPlaced, IsStill, IsTable, Tells, TellsBehind}
+use Rattle.hart_step.proofs.Acting.{act_arrived, act_fault, act_inst, looked-inst_at, none_arrives, registers-inst_at}
+
+-- an instruction that can be fetched, where no hart arrives
+pub placed_fetched : (m : Space) (points : List Point) (frames : ℕ) (hart : Hart) (table : List Known) → arrival_of points frames hart ≡ None → IsFetched m hart.pc table
+    → IsPlaced m points frames hart table (place_of hart.pc)
+placed_fetched m points frames hart table none is =
+    record {
+      within = omega arith;
+      inst = λ d.
+          let known = slice_index_or table (place_of hart.pc) d in
+          record {
+            act = act_inst m points frames hart known.inst none (looked-inst_at m hart.pc known.inst (is d));
+            registers = registers-inst_at m hart.pc known.inst (is d);
+          };
+    }
 
 -- an instruction that is known
 pub placed_known : (m : Space) (points : List Point) (frames : ℕ) (hart : Hart) (table : List Known) (place : ℕ) (e : Known)
@@ -28,59 +39,48 @@ pub placed_known : (m : Space) (points : List Point) (frames : ℕ) (hart : Hart
 placed_known m points frames hart table place e is below at found =
     let long = is.long in
     let inside : place < length table = omega (arith, below, long) in
-    record {
-      within = omega (arith, below);
-      inst = λ d.
-          let known = slice_index_or table place d in
-          let here : known.pc ≡ hart.pc = ap (λ (x : Known). x.pc) (get_or_default table place d e inside) ∙ found in
-          let tells = is.tells place d below (ap place_of here ∙ sym at) in
-          let inst : inst_at m hart.pc ≡ Some known.inst = ap (inst_at m) (sym here) ∙ tells.inst in
-          let free : active_at points hart.pc ≡ None = ap (active_at points) (sym here) ∙ tells.free in
-          record {
-            act = act_inst m points frames hart known.inst (none_arrives points frames hart free) (looked-inst_at m hart.pc known.inst inst);
-            registers = registers-inst_at m hart.pc known.inst inst;
-          };
-    }
+    let here : (d : Known) → (slice_index_or table place d).pc ≡ hart.pc = λ d. ap (λ (x : Known). x.pc) (get_or_default table place d e inside) ∙ found in
+    let tells : (d : Known) → Tells m points (slice_index_or table place d) = λ d. is.tells place d below (ap place_of (here d) ∙ sym at) in
+    subst (IsPlaced m points frames hart table) (sym at)
+    (placed_fetched m points frames hart table (none_arrives points frames hart (ap (active_at points) (sym (here e)) ∙ (tells e).free))
+    (subst (λ k. (d : Known) → inst_at m hart.pc ≡ Some (slice_index_or table k d).inst) at (λ d. ap (inst_at m) (sym (here d)) ∙ (tells d).inst)))
 
 -- and one that is put into the table
-pub placed_learnt : (m : Space) (points : List Point) (frames : ℕ) (hart : Hart) (table : List Known) (inst : Inst) (under : ℕ)
-    → length table ≡ 4096 → arrival_of points frames hart ≡ None → looked m hart.pc ≡ Ok inst → NamesRegisters inst
-    → IsPlaced m points frames hart (slice_set table (place_of hart.pc) (record { inst = inst; pc = under })) (place_of hart.pc)
-placed_learnt m points frames hart table inst under long none is names =
-    let place = place_of hart.pc in
-    let below : place < 4096 = omega arith in
-    record {
-      within = below;
-      inst = λ d.
-          let known : Known = record { inst = inst; pc = under } in
-          let same : get_or (set table place known) place d ≡ known = get_or-set_same table place known d (omega (arith, long, below)) in
-          record {
-            act = subst (λ (x : Known). hart_act m points frames hart ≡ act_of_class (class_of x.inst.op) m hart x.inst) (sym same) (act_inst m points frames hart inst none is);
-            registers = subst (λ (x : Known). NamesRegisters x.inst) (sym same) names;
-          };
-    }
+pub fetched_put : (m : Space) (pc : ℕ) (table : List Known) (known : Known) → length table ≡ 4097 → inst_at m pc ≡ Some known.inst → IsFetched m pc (slice_set table (place_of pc) known)
+fetched_put m pc table known long is = λ d.
+    let inside : place_of pc < length table = omega (arith, long) in
+    subst (λ (x : Known). inst_at m pc ≡ Some x.inst) (sym (get_or-set_same table (place_of pc) known d inside)) is
 
--- which tells the truth there, or nothing
-pub table_learnt : (m : Space) (points : List Point) (table : List Known) (pc : ℕ) (inst : Inst) (under : ℕ) → IsTable m points table → looked m pc ≡ Ok inst → IsFor points pc under
-    → IsTable m points (slice_set table (place_of pc) (record { inst = inst; pc = under }))
-table_learnt m points table pc inst under is found for =
-    let place = place_of pc in
-    let known : Known = record { inst = inst; pc = under } in
+-- at a place stands what tells the truth, or nothing
+pub table_put : (m : Space) (points : List Point) (table : List Known) (place : ℕ) (known : Known) → IsTable m points table → place < 4096
+    → (place_of known.pc ≡ place → Tells m points known) → IsTable m points (slice_set table place known)
+table_put m points table place known is below truth =
     let long = is.long in
     record {
       long = length-set table place known ∙ long;
       tells = λ k d less at. elim (eqb_tells k place) [
         | inl here ↦
-            let there : get_or (set table place known) k d ≡ known = ap (λ i. get_or (set table place known) i d) here.1 ∙ get_or-set_same table place known d (omega (arith, long)) in
-            let own : place_of under ≡ place_of pc = sym (ap (λ (x : Known). place_of x.pc) there) ∙ at ∙ here.1 in
-            subst (Tells m points) (sym there) (record {
-              inst = ap (inst_at m) (for.own own) ∙ inst_at-looked m pc inst found;
-              free = ap (active_at points) (for.own own) ∙ for.free own;
-            })
+            let there : get_or (set table place known) k d ≡ known = ap (λ i. get_or (set table place known) i d) here.1 ∙ get_or-set_same table place known d (omega (arith, long, below)) in
+            subst (Tells m points) (sym there) (truth (sym (ap (λ (x : Known). place_of x.pc) there) ∙ at ∙ here.1))
         | inr apart ↦
             let same : get_or (set table place known) k d ≡ get_or table k d = get_or-set_other table place k known d apart.1 in
             subst (Tells m points) (sym same) (is.tells k d less (sym (ap (λ (x : Known). place_of x.pc) same) ∙ at))
       ];
+      first = λ d.
+          let same : get_or (set table place known) 4096 d ≡ get_or table 4096 d = get_or-set_other table place 4096 known d (omega (arith, below)) in
+          subst (TellsBehind m) (sym same) (is.first d);
+    }
+
+-- and behind the places what can be fetched, or nothing
+pub table_behind : (m : Space) (points : List Point) (table : List Known) (known : Known) → IsTable m points table → TellsBehind m known → IsTable m points (slice_set table 4096 known)
+table_behind m points table known is truth =
+    let long = is.long in
+    record {
+      long = length-set table 4096 known ∙ long;
+      tells = λ k d less at.
+          let same : get_or (set table 4096 known) k d ≡ get_or table k d = get_or-set_other table 4096 k known d (omega (arith, less)) in
+          subst (Tells m points) (sym same) (is.tells k d less (sym (ap (λ (x : Known). place_of x.pc) same) ∙ at));
+      first = λ d. subst (TellsBehind m) (sym (get_or-set_same table 4096 known d (omega (arith, long)))) truth;
     }
 
 pub still_arrived : (m : AddressSpace) (points : List Point) (frames : ℕ) (hart : Hart) (o : Option PointRef) → arrival_of points frames hart ≡ o → is_some o ≡ true

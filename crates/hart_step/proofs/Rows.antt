@@ -1,5 +1,5 @@
 -- Instructions of a hart in a row, as acts in a state.
-use Rattle.std.proofs.Common.{◌≡◌, ◌≢◌, ℕ, zero, suc, ◌+◌, ◌-◌, ◌<◌, ◌≤◌, Bool, true, false, not, ◌==◌, List, [], ◌∷◌, length, get_or, set, map, slice_get, if◌then◌else◌, Option, Some, None, refl, ap, sym, ◌∙◌, subst, arith}
+use Rattle.std.proofs.Common.{◌≡◌, ◌≢◌, ℕ, zero, suc, ◌+◌, ◌-◌, ◌<◌, ◌≤◌, Bool, true, false, not, ◌==◌, List, [], ◌∷◌, length, get_or, set, map, slice_get, if◌then◌else◌, Option, Some, None, option_map, refl, ap, sym, ◌∙◌, subst, arith}
 use Rattle.std.proofs.lemmas.Bool.{and_from, and_parts, or_from, or_parts}
 use Rattle.std.proofs.lemmas.Bool.Decides.{nat_tests}
 use Rattle.std.proofs.lemmas.List.{get_or-map, length-map, set-get_or}
@@ -27,8 +27,9 @@ use Rattle.run_history.specs.Legal.{can_go, can_run, is_ordinary, is_ready_slot}
 use Rattle.run_history.proofs.InstCases.{InstCases, hart_act_by}
 use Rattle.run_history.proofs.RunSteps.{can_run-more, can_run-none, next-ordinary, ran-more, ran-none}
 use Rattle.hart_step.specs.InARow.{Lone, act_at, after_act, after_acts, all_go, closes, is_next, lone, stays_open, IsRow}
-use Rattle.hart_step.specs.InPlace.{hart_after, touched_by, written_by}
-use Rattle.hart_step.specs.Legs.{IsLeg}
+use Rattle.hart_step.specs.InPlace.{did_of, hart_after, touched_by, written_by}
+use Rattle.hart_step.specs.Legs.{did_at, IsLeg}
+use Rattle.hart_step.specs.SlotActs.{slot_act}
 use Rattle.hart_step.specs.Stops.{act_wants, slot_wants, wants_memory, IsPlainRow}
 
 -- slots with one of them replaced
@@ -364,3 +365,8 @@ module _ (s : State) (h : ℕ) (slot : Slot) (at : slice_get s.slots h ≡ Some 
           ap (λ (t : State). frames_at t h) (closed_in_row end n) ∙ ap frame_count (set_get s.slots h (closed (standing slot end.hart)) slot at) in
           let before = frames_before in
           omega (arith, fewer, here, before)
+
+      -- what the hart does behind a row that closes no frame
+      pub row_did : (end : Lone) (n : ℕ) → did_at (row_end end n false) h ≡ Some (did_of (act_at s.points frames end))
+      unfolding row_end in_row
+      row_did end n = ap (λ o. option_map did_of (option_map (slot_act (in_row end n)) o)) (slot_in_row end n)

@@ -11,7 +11,8 @@ use Rattle.guest_words.specs.HartAct.{hart_act}
 use Rattle.guest_words.specs.Space.{page_up, pages_in}
 use Rattle.guest_words.specs.State.{State}
 
--- one for each byte of a read, each page that goes, the pages that come, the break, and else a store
+-- one for each byte of a read, each page that goes, the pages that come, the break, and else a
+-- store
 abbrev pub notes_of_call : State → Request → ℕ
 notes_of_call s (request.Read fd place size) = cut size
 notes_of_call s (request.Break to) = 1 + max 1 ((page_up s.brk - page_up to) / PAGE)

@@ -23,24 +23,31 @@ pub record Tells (m : Space) (points : List Point) (known : Known) : Type 0 wher
   pub inst : inst_at m known.pc ≡ Some known.inst
   pub free : active_at points known.pc ≡ None
 
--- each instruction that stands at the place of its address tells the truth
+-- the instruction is what can be fetched at its address, unless that is one that none can have
+abbrev pub TellsBehind : Space → Known → Type 0
+TellsBehind m known = known.pc % 4 ≡ 0 → inst_at m known.pc ≡ Some known.inst
+
+-- each instruction that stands at the place of its address tells the truth, and the one behind the
+-- places tells what can be fetched, also where an active point begins
 pub record IsTable (m : Space) (points : List Point) (table : List Known) : Type 0 where
-  pub long : length table ≡ 4096
+  pub long : length table ≡ 4097
   pub tells :
       (k : ℕ) (d : Known)
       → k < 4096
       → place_of (slice_index_or table k d).pc ≡ k
       → Tells m points (slice_index_or table k d)
+  pub first : (d : Known) → TellsBehind m (slice_index_or table 4096 d)
 
 -- an instruction as one at address 4
 abbrev pub elsewhere : Known → Known
 elsewhere known = record known { pc = 4 }
 
--- no instruction stands at the place of its address
+-- no instruction stands at the place of its address, nor behind the places at one that it can have
 pub record IsBlank (table : List Known) : Type 0 where
-  pub long : length table ≡ 4096
+  pub long : length table ≡ 4097
   pub apart :
       (k : ℕ) (d : Known) → k < 4096 → place_of (slice_index_or table k d).pc ≢ k
+  pub first : (d : Known) → (slice_index_or table 4096 d).pc % 4 ≢ 0
 
 -- the instruction that a hart carries out
 pub record IsInst (m : Space) (points : List Point) (frames : ℕ) (hart : Hart)
@@ -62,8 +69,7 @@ pub record IsPlaced (m : Space) (points : List Point) (frames : ℕ) (hart : Har
   pub within : place < 4096
   pub inst : (d : Known) → IsInst m points frames hart (slice_index_or table place d).inst
 
--- an address under which the instruction at another is kept at that one's place: the same, where
--- no active point begins there, else one of another place
-pub record IsFor (points : List Point) (pc under : ℕ) : Type 0 where
-  pub own : place_of under ≡ place_of pc → under ≡ pc
-  pub free : place_of under ≡ place_of pc → active_at points pc ≡ None
+-- at the place of an address stands the instruction that can be fetched there
+abbrev pub IsFetched : Space → ℕ → List Known → Type 0
+IsFetched m pc table =
+    (d : Known) → inst_at m pc ≡ Some (slice_index_or table (place_of pc) d).inst

@@ -101,7 +101,8 @@ impl Engine {
         requires ready { is_ready_at self.old.state hart ≡ true }
         requires left { self.old.state.steps < self.old.state.budget }
         requires free { can_want noted request.now ≡ false }
-        requires room { noted ≡ true → min 1 (notes_of_call self.old.state request.now) ≤ log.old.spare }
+        requires room { noted ≡ true
+            → min 1 (notes_of_call self.old.state request.now) ≤ log.old.spare }
         ensures value { named (replied self.old.state hart
             (reply_of request.now (facts_of self.old.state hart request.now)) request.now)
             ≡ Some result }
@@ -130,7 +131,8 @@ impl Engine {
         requires reply { reply
             ≡ reply_of request.now (facts_of self.old.state hart request.now) }
         requires free { can_want noted request.now ≡ false }
-        requires room { noted ≡ true → min 1 (notes_of_call self.old.state request.now) ≤ log.old.spare }
+        requires room { noted ≡ true
+            → min 1 (notes_of_call self.old.state request.now) ≤ log.old.spare }
         ensures after { self.new.state
             ≡ moved self.old.state (replied self.old.state hart reply request.now) }
         ensures notes { Notes noted log.old.notes log.new.notes
@@ -170,7 +172,8 @@ impl Engine {
         requires left { self.old.state.steps < self.old.state.budget }
         requires free { free_slot self.old.state.slots ≡ Some slot }
         requires clones { is_clone request.now ≡ true }
-        requires room { noted ≡ true → min 1 (notes_of_call self.old.state request.now) ≤ log.old.spare }
+        requires room { noted ≡ true
+            → min 1 (notes_of_call self.old.state request.now) ≤ log.old.spare }
         ensures after { self.new.state ≡ moved self.old.state
             (replied self.old.state hart (reply.Child slot) request.now) }
         ensures notes { Notes noted log.old.notes log.new.notes

@@ -4,7 +4,7 @@ ghost use Rattle.guest_words.specs.Space.{can_write, with_bytes};
 ghost use Rattle.guest_memory.specs.Noting.{Notes};
 
 use crate::guest::Guest;
-use crate::known::forget;
+use crate::known::{FIRST, NOWHERE, forget};
 use guest_memory::Memory;
 use guest_words::{MemoryWant, Points};
 use std::alloc::Global;
@@ -70,6 +70,8 @@ impl Guest {
         ensures value { self.new ≡ record self.old { points = spent self.old.points entry } }
     {
         self.points.spend(entry);
+        // If the point is now inactive, its first instruction is to be found like any other.
+        self.table[FIRST].pc = NOWHERE;
     }
 
     /// Makes the points those of another.

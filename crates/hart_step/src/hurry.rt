@@ -8,7 +8,7 @@ ghost use Rattle.guest_memory.specs.Noting.{Notes};
 ghost use Rattle.hart_slots.specs.Rejoined.{hart_of};
 ghost use Rattle.run_history.specs.Legal.{is_ready_at};
 ghost use Rattle.hart_step.specs.InPlace.{HasZero};
-ghost use Rattle.hart_step.specs.Legs.{HasRun, IsLeg};
+ghost use Rattle.hart_step.specs.Legs.{did_at, HasRun, IsLeg};
 ghost use Rattle.hart_step.specs.Live.{space_of};
 
 use crate::engine::Engine;
@@ -34,6 +34,9 @@ impl Engine {
             → frames_at self.new.state hart ≡ frames_at self.old.state hart }
         ensures closed { result.closed ≡ true
             → frames_at self.new.state hart < frames_at self.old.state hart }
+        ensures stops { result.closed ≡ false → result.count < most
+            → is_budget_spent self.new.state ≡ false
+            → did_at self.new.state hart ≡ Some result.did }
         ensures notes { Notes noted log.old.notes log.new.notes
             (space_of self.old) (space_of self.new) }
         ensures few { length log.new.notes ≤ length log.old.notes + result.count }
@@ -60,7 +63,7 @@ fn in_row(
     requires room { noted ≡ true → most ≤ log.old.spare }
     ensures within { result.count ≤ most }
     ensures row { HasRun guest.old.points hart slots.old slots.new guest.old.memory
-        guest.new.memory result.count result.closed }
+        guest.new.memory result.count most result.closed result.did }
     ensures notes { Notes noted log.old.notes log.new.notes guest.old.memory guest.new.memory }
     ensures few { length log.new.notes ≤ length log.old.notes + result.count }
     ensures spare { log.old.spare ≤ log.new.spare + result.count }

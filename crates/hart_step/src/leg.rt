@@ -1,5 +1,5 @@
 //! Parts of a row of acts: instructions at full speed, and single acts.
-ghost use Rattle.std.specs.Prelude.{◌≡◌, ◌+◌, ◌<◌, ◌≤◌, true, false, Some, map, slice_get, length};
+ghost use Rattle.std.specs.Prelude.{◌≡◌, ◌+◌, ◌^◌, ◌<◌, ◌≤◌, true, false, Some, map, slice_get, length};
 ghost use Rattle.guest_words.specs.declared.hart.Slot.{Slot};
 ghost use Rattle.guest_words.specs.Endings.{is_budget_spent};
 ghost use Rattle.guest_words.specs.State.{frames_at};
@@ -8,10 +8,11 @@ ghost use Rattle.guest_memory.specs.Noting.{Notes};
 ghost use Rattle.hart_slots.specs.Rejoined.{hart_of};
 ghost use Rattle.run_history.specs.Legal.{is_ready_at};
 ghost use Rattle.hart_step.specs.InPlace.{HasZero};
-ghost use Rattle.hart_step.specs.Legs.{IsLeg};
+ghost use Rattle.hart_step.specs.Legs.{did_at, IsLeg};
 ghost use Rattle.hart_step.specs.Live.{space_of};
 ghost use Rattle.hart_step.specs.Stops.{is_held, wants_memory, Stops};
 
+use crate::did::Did;
 use crate::engine::Engine;
 use crate::next_act::NextAct;
 use undo_log::Log;
@@ -47,6 +48,18 @@ impl Leg {
             next,
         }
     }
+
+    // The acts with so many before them.
+    fn behind(self, count: u32) -> Leg
+        requires fits { count + self.count < 2 ^ 32 }
+        ensures value { result ≡ record self { count = count + self.count } }
+    {
+        Leg {
+            count: count + self.count,
+            is_last: self.is_last,
+            next: self.next,
+        }
+    }
 }
 
 impl Engine {
@@ -76,10 +89,36 @@ impl Engine {
         if ran.closed {
             return Leg::last(ran.count, None);
         }
-        if ran.count == 0 {
-            return self.act_leg(hart, log, noted);
+        if ran.count == most {
+            return Leg::on(ran.count);
         }
-        Leg::on(ran.count)
+        if self.is_held(hart) {
+            return Leg::last(ran.count, None);
+        }
+        self.known_leg(hart, ran.did, log, noted).behind(ran.count)
+    }
+
+    // A single act, of which it is known what the hart does.
+    fn known_leg(&mut self, hart: u8, did: Did, log: &mut Log, noted: bool) -> Leg
+        requires free { is_held self.old.state hart ≡ false }
+        requires did { did_at self.old.state hart ≡ Some did }
+        requires room { noted ≡ true → 1 ≤ log.old.spare }
+        ensures within { result.count ≤ 1 }
+        ensures leg { IsLeg noted self.old.state self.new.state hart result.count }
+        ensures more { result.is_last ≡ false → 0 < result.count }
+        ensures stays { result.is_last ≡ false
+            → frames_at self.new.state hart ≡ frames_at self.old.state hart }
+        ensures stops { result.is_last ≡ true
+            → Stops noted self.old.state self.new.state hart result.next }
+        ensures notes { Notes noted log.old.notes log.new.notes
+            (space_of self.old) (space_of self.new) }
+        ensures few { length log.new.notes ≤ length log.old.notes + result.count }
+        ensures room { log.old.spare ≤ log.new.spare + result.count }
+    {
+        match did {
+            Did::Fault(name) => Leg::last(0, Some(NextAct::Fault(name))),
+            _ => self.act_leg(hart, log, noted),
+        }
     }
 
     // A single act.

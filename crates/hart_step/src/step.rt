@@ -1,16 +1,17 @@
-ghost use Rattle.std.specs.Prelude.{◌≡◌, ◌≢◌, IfErr, IfOk};
+ghost use Rattle.std.specs.Prelude.{◌≡◌, ◌≢◌, Err, IfErr, IfOk, OnOk};
 ghost use Rattle.guest_words.specs.HartAct.{hart_act};
 ghost use Rattle.hart_step.specs.InPlace.{parts, HasZero, IsMade};
-ghost use Rattle.hart_step.specs.Table.{place_of, IsFor, IsPlaced, IsStill, IsTable};
+ghost use Rattle.hart_step.specs.Looked.{looked};
+ghost use Rattle.hart_step.specs.Table.{place_of, IsFetched, IsPlaced, IsStill, IsTable};
 
 use crate::before::Before;
 use crate::carry::carry_out;
 use crate::did::Did;
-use crate::known::{Known, place_of};
+use crate::known::{FIRST, Known, place_of};
 use crate::look::{arrival, look};
 use guest_memory::Memory;
 use guest_pages::Recent;
-use guest_words::{Hart, Points};
+use guest_words::{FaultName, Hart, Points};
 
 /// The act of a hart with so many frames open, in place, before its frames close.
 #[inline(always)]
@@ -62,8 +63,8 @@ fn place_for(
     }
 }
 
-/// Puts the instruction at an address that the table lacks at its place, where the hart can go on
-/// with it, or says what the hart does instead.
+/// Puts the instruction at an address at its place, which lacks it, where the hart can go on with
+/// it, or says what the hart does instead.
 #[inline(never)]
 fn learn(hart: &Hart, memory: &Memory, points: &Points, frames: usize, table: &mut [Known]) -> Did
     requires table { IsTable memory.now.space points.now table.old }
@@ -75,26 +76,44 @@ fn learn(hart: &Hart, memory: &Memory, points: &Points, frames: usize, table: &m
     if arrival(points, frames, hart).is_some() {
         return Did::Arrived;
     }
-    match look(memory, hart.pc) {
-        Ok(inst) => {
-            let pc = known_as(points, hart.pc);
-            table[place_of(hart.pc)] = Known { inst, pc };
-            Did::Went
-        }
+    let first = table[FIRST];
+    if first.pc == hart.pc && hart.pc % 4 == 0 {
+        table[place_of(hart.pc)] = Known {
+            inst: first.inst,
+            pc: apart_from(hart.pc),
+        };
+        return Did::Went;
+    }
+    match fetch_at(hart.pc, memory, points, table) {
+        Ok(()) => Did::Went,
         Err(name) => Did::Fault(name),
     }
 }
 
-/// The address under which an instruction is kept: an active point's gets one of another place, so
-/// that nobody finds it again, since a hart that comes there by a jump arrives.
-fn known_as(points: &Points, pc: u64) -> u64
-    ensures address { IsFor points.now pc result }
+/// Fetches the instruction at an address, and puts it at its place. Where an active point begins
+/// there, it is found again behind the places alone.
+fn fetch_at(pc: u64, memory: &Memory, points: &Points, table: &mut [Known]) -> Result<(), FaultName>
+    requires table { IsTable memory.now.space points.now table.old }
+    ensures table { IsTable memory.now.space points.now table.new }
+    ensures ok { OnOk result (IsFetched memory.now.space pc table.new) }
+    ensures err { IfErr result (λ name. looked memory.now.space pc ≡ Err name) }
 {
+    let inst = look(memory, pc)?;
     if points.active_at(pc).is_none() {
-        pc
-    } else if place_of(pc) == 1 {
-        0
+        table[place_of(pc)] = Known { inst, pc };
     } else {
-        4
+        table[FIRST] = Known { inst, pc };
+        table[place_of(pc)] = Known {
+            inst,
+            pc: apart_from(pc),
+        };
     }
+    Ok(())
+}
+
+/// An address of another place. What is kept under it at the place of this one, nobody finds again.
+fn apart_from(pc: u64) -> u64
+    ensures other { place_of result ≢ place_of pc }
+{
+    if place_of(pc) == 1 { 0 } else { 4 }
 }

@@ -102,8 +102,8 @@ fn placed<K: Origin, S: Source, T: Sink, P: Port>(
     places
 }
 
-/// Runs a machine by a worker for each of its harts, until it is over. A machine whose run has ended
-/// comes back as it is, and one for whose workers memory is wanting is abandoned.
+/// Runs a machine by a worker for each of its harts, until it is over. A machine whose run has
+/// ended comes back as it is, and one for whose workers memory is wanting is abandoned.
 pub fn run_all<
     R: Threads + Wait + Sync,
     K: Origin + Send + Sync,

@@ -1,5 +1,5 @@
-//! How the workers of harts that aren't ready sleep, until a turn of another has made them ready. No
-//! clause speaks of it.
+//! How the workers of harts that aren't ready sleep, until a turn of another has made them ready.
+//! No clause speaks of it.
 use crossbeam_utils::Backoff;
 use std::alloc::{AllocError, Global};
 use std::sync::Wait;

@@ -138,7 +138,7 @@ impl<'a, K: Origin> Worker<'a, K> {
         unreachable!()
     }
 
-    /// Steps the harts below its own whose workers haven't begun, and answers whether there are any.
+    /// Steps the harts below its own whose workers haven't begun; answers whether there are any.
     ///
     /// Where no thread can be had, these begin only once this worker has ended, so it mustn't wait
     /// for them. The worker of the last hart always begins first.

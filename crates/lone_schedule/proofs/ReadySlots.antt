@@ -1,5 +1,5 @@
 -- The ready slots, one slot at a time.
-use Rattle.std.proofs.Common.{◌≡◌, ℕ, zero, suc, ◌+◌, ◌-◌, ◌<◌, ◌≤◌, true, false, if◌then◌else◌, List, [], ◌∷◌, length, drop, slice_get, refl, ap, sym, ◌∙◌, arith}
+use Rattle.std.proofs.Common.{◌≡◌, ℕ, zero, suc, ◌+◌, ◌-◌, ◌%◌, ◌<◌, ◌≤◌, true, false, if◌then◌else◌, List, [], ◌∷◌, length, drop, slice_get, Some, None, refl, ap, sym, ◌∙◌, arith}
 use Rattle.guest_words.specs.declared.hart.Slot.{Slot}
 use Rattle.run_history.specs.Legal.{is_ready_slot}
 use Rattle.lone_schedule.specs.Choice.{ready_from}
@@ -42,3 +42,21 @@ ready_none (slot ∷ slots) h zero idle =
 pub get_later : (x n : ℕ) (xs : List ℕ) → ¬ (n ≡ 0) → slice_get (x ∷ xs) n ≡ slice_get xs (n - 1)
 get_later x zero xs some = absurd (some refl)
 get_later x (suc n) xs some = let less : n ≡ suc n - 1 = omega arith in ap (slice_get xs) less
+
+-- where no slot behind the first is ready, its hart alone can be chosen
+
+pub alone_ready : (slots : List Slot) (w : ℕ) → ((j : ℕ) → 1 ≤ j → is_ready_slot (slice_get slots j) ≡ false) → is_ready_slot (slice_get slots 0) ≡ true
+    → slice_get (ready_from 0 slots) (w % length (ready_from 0 slots)) ≡ Some 0
+alone_ready [] w idle is = absurd (cc)
+alone_ready (slot ∷ slots) w idle is =
+    let one : ready_from 0 (slot ∷ slots) ≡ 0 ∷ [] = ready_here (slot ∷ slots) 0 (omega arith) is ∙ ap (λ xs. 0 ∷ xs) (ready_none (slot ∷ slots) 1 1 idle) in
+    let first : w % 1 ≡ 0 = omega arith in
+    ap (λ xs. slice_get xs (w % length xs)) one ∙ ap (slice_get (0 ∷ [])) first
+
+pub alone_idle : (slots : List Slot) (w : ℕ) → ((j : ℕ) → 1 ≤ j → is_ready_slot (slice_get slots j) ≡ false) → is_ready_slot (slice_get slots 0) ≡ false
+    → slice_get (ready_from 0 slots) (w % length (ready_from 0 slots)) ≡ None
+alone_idle slots w idle is = ap (λ xs. slice_get xs (w % length xs)) (ready_none slots 0 0 all)
+  where
+    all : (j : ℕ) → 0 ≤ j → is_ready_slot (slice_get slots j) ≡ false
+    all zero behind = is
+    all (suc j) behind = idle (suc j) (omega arith)

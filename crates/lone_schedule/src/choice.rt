@@ -44,6 +44,10 @@ pub fn choose<K: Origin, S: Source, T: Sink, P: Port>(
 ) -> Option<u8>
     ensures value { result ≡ chosen machine.now.state word }
 {
+    // Most guests have one hart, which is found without counting.
+    if machine.used() <= 1 {
+        return if machine.is_ready(0) { Some(0) } else { None };
+    }
     match count_ready(machine) {
         0 => None,
         count => ready_at(machine, word % count),

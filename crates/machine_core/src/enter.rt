@@ -12,7 +12,6 @@ use crate::inner::Inner;
 use crate::origin::Origin;
 use crate::room::make_room;
 use guest_words::{MemoryWant, PointRef};
-use open_calls::Calls;
 
 impl<K: Origin> Inner<K> {
     /// Opens the call of the point at which the hart stands, within those that are open. Takes
@@ -36,7 +35,7 @@ impl<K: Origin> Inner<K> {
     {
         let hart = self.calls.hart();
         make_room(&mut self.calls, &mut self.log, 0)?;
-        let list = Calls::next_list(self.alloc)?;
+        let list = self.calls.next_list(self.alloc)?;
         let kept = self.engine.checkpoint(self.alloc, self.calls.length())?;
         self.engine.enter(hart, point)?;
         let mark = self.log.length();

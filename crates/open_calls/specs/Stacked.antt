@@ -30,8 +30,8 @@ abbrev pub Fact : Type 1
 Fact = Checkpoint → AddressSpace → ℕ → Type 0
 
 -- a call that was entered in the state b with the memory m, with so many frames open, and has come
--- to the state t with the memory n by these entries; of the notes of all calls those since then lead
--- back
+-- to the state t with the memory n by these entries; of the notes of all calls those since then
+-- lead back
 pub record IsOpen (Back : Fact) (h : ℕ) (b : State) (m : AddressSpace) (o : Level) (depth : ℕ)
     (es : List Entry) (ns : List Note) (t : State) (n : AddressSpace) : Type 0 where
   pub depth_is : frames_at b h ≡ depth

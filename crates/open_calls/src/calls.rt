@@ -30,9 +30,13 @@ pub struct Calls {
     outers: Vec<Outer>,
     /// So many entries more have room, whatever closes.
     acts: usize,
+    /// No entries: the list of a short call that has closed, whose room the next call takes. That
+    /// of a long one would hold its memory for nothing.
+    free: History,
 }
 
 impl Model for Calls {
+    ghost use Rattle.std.specs.Prelude.{◌≡◌, []};
     ghost use Rattle.std.specs.Coded.{codes};
     ghost use Rattle.run_history.specs.contracts.entry.Entry as entry;
     ghost use Rattle.checkpoints.specs.contracts.checkpoint.Checkpoint as kept;
@@ -50,7 +54,8 @@ impl Model for Calls {
     } };
 
     ghost invariant = { λ c. Rooms c.acts c.top (turned c.outers.items)
-        × HasPlaces c.outers };
+        × HasPlaces c.outers
+        × (c.free.entries ≡ []) };
 }
 
 impl Calls {
@@ -60,13 +65,14 @@ impl Calls {
             calls.nest ≡ record { outers = []; entries = [] }) }
         ensures hart { IfOk result (λ calls. calls.hart ≡ hart) }
     {
-        let top = list::fresh(alloc)?;
+        let top = list::fresh(list::empty(alloc))?;
         let outers = Vec::with_capacity(alloc, limits::FRAMES)?;
         Ok(Calls {
             hart,
             top,
             outers,
             acts: 0,
+            free: list::empty(alloc),
         })
     }
 
@@ -123,7 +129,7 @@ impl Calls {
         }
     }
 
-    /// How many notes the machine's log had at the entering of the innermost call; 0 with none open.
+    /// How many notes the machine's log had at the entering of the innermost call; 0 with none.
     pub fn mark(&self) -> u64
         ensures value { result ≡ mark_in self.now.nest }
     {
@@ -160,11 +166,14 @@ impl Calls {
         Ok(())
     }
 
-    /// A list for the entries of a further call.
-    pub fn next_list(alloc: Global) -> Result<History, MemoryWant>
+    /// A list for the entries of a further call. Takes no memory where a short call has closed
+    /// since the last one.
+    pub fn next_list(&mut self, alloc: Global) -> Result<History, MemoryWant>
+        ensures same { self.new ≡ self.old }
         ensures fresh { IfOk result (λ list. IsFresh list) }
     {
-        list::fresh(alloc)
+        let free = replace(&mut self.free, list::empty(alloc));
+        list::fresh(free)
     }
 
     /// A call of a point opens, where the machine's log has so many notes.
@@ -196,8 +205,10 @@ impl Calls {
         match self.outers.pop() {
             Some(outer) => {
                 let Outer { entries, point, .. } = outer;
-                let inner = replace(&mut self.top, entries);
-                list::join(&mut self.top, inner, self.hart, point);
+                let mut inner = replace(&mut self.top, entries);
+                let is_short = inner.items().len() <= list::ENTRIES;
+                list::join(&mut self.top, &mut inner, self.hart, point);
+                list::keep_where(&mut self.free, inner, is_short);
             }
             None => {}
         }

@@ -9,7 +9,7 @@ use run_history::History;
 const MOST: u64 = 1 << 40;
 
 /// Makes room for so many entries, with a place more for an entering or an ending, and answers how
-/// many the list then has in all: they need room around it. After an Err there may be more room too.
+/// many the list then has in all: they need room around it. After an Err there may be more room.
 pub fn make_in(list: &mut History, entries: usize) -> Result<usize, MemoryWant>
     ensures same { IsWider list.old list.new }
     ensures entries { OnOk result (entries + 1 ≤ list.new.spare) }

@@ -13,13 +13,8 @@ const OUTER: PointRef = PointRef { entry: 0x10000 };
 const INNER: PointRef = PointRef { entry: 0x10100 };
 
 // A checkpoint of a machine with no hart.
-fn nobody(alloc: Global) -> Checkpoint {
-    Checkpoint {
-        harts: Harts::of(Vec::new(alloc)),
-        queue: Queue::new(),
-        records: 0,
-        next_tid: 2,
-    }
+fn nobody(alloc: Global) -> Result<Checkpoint, MemoryWant> {
+    Checkpoint::of(alloc, &Harts::of(Vec::new(alloc)), &Queue::new(), 0, 2)
 }
 
 // That a byte had the values from 0 to 4.
@@ -37,9 +32,11 @@ fn notes_of_each_call(rt: HostRuntime) -> Result<(), Fail> {
     let log = five_notes(rt.alloc())?;
     let mut calls = Calls::none(rt.alloc(), 0)?;
     calls.make_room()?;
-    calls.open(OUTER, nobody(rt.alloc()), 0, Calls::next_list(rt.alloc())?);
+    let list = calls.next_list(rt.alloc())?;
+    calls.open(OUTER, nobody(rt.alloc())?, 0, list);
     calls.make_room()?;
-    calls.open(INNER, nobody(rt.alloc()), 2, Calls::next_list(rt.alloc())?);
+    let list = calls.next_list(rt.alloc())?;
+    calls.open(INNER, nobody(rt.alloc())?, 2, list);
     assert!(rt;
         matches!(
             calls.notes(0, &log),
@@ -55,11 +52,13 @@ fn notes_of_each_call(rt: HostRuntime) -> Result<(), Fail> {
 fn calls_within_calls_close(rt: HostRuntime) -> Result<(), Fail> {
     let mut calls = Calls::none(rt.alloc(), 0)?;
     calls.make_room()?;
-    calls.open(OUTER, nobody(rt.alloc()), 0, Calls::next_list(rt.alloc())?);
+    let list = calls.next_list(rt.alloc())?;
+    calls.open(OUTER, nobody(rt.alloc())?, 0, list);
     calls.make_room()?;
     calls.put_run(3);
     calls.make_room()?;
-    calls.open(INNER, nobody(rt.alloc()), 2, Calls::next_list(rt.alloc())?);
+    let list = calls.next_list(rt.alloc())?;
+    calls.open(INNER, nobody(rt.alloc())?, 2, list);
     calls.make_room()?;
     calls.put_run(2);
     calls.make_room()?;

@@ -101,14 +101,15 @@ impl History {
         }
     }
 
-    /// Puts these entries behind those of another history.
-    pub fn join_onto(self, outer: &mut History)
-        requires room { length self.entries ≤ outer.old.spare }
-        ensures entries { outer.new.entries ≡ outer.old.entries ++ self.entries }
-        ensures room { outer.old.spare ≤ outer.new.spare + length self.entries }
+    /// Puts these entries behind those of another history. What they leave is room.
+    pub fn join_onto(&mut self, outer: &mut History)
+        requires room { length self.old.entries ≤ outer.old.spare }
+        ensures entries { outer.new.entries ≡ outer.old.entries ++ self.old.entries }
+        ensures room { outer.old.spare ≤ outer.new.spare + length self.old.entries }
+        ensures none { self.new.entries ≡ [] }
+        ensures own { self.new.spare ≡ self.old.spare + length self.old.entries }
     {
-        let History { mut entries } = self;
-        match outer.entries.append(&mut entries) {
+        match outer.entries.append(&mut self.entries) {
             Ok(()) => {}
             Err(_) => unreachable!(),
         }

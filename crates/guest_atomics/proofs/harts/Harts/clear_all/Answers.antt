@@ -1,13 +1,13 @@
 use Rattle.std.proofs.Common.{sym, refl}
 use Rattle.guest_words.specs.Harts.{unreserved}
 use Rattle.guest_atomics.proofs.FreeHarts.{map-unreserved-free, All-unreserved}
-use Rattle.guest_atomics.proofs.IdleHarts.{map-idle}
+use Rattle.guest_atomics.proofs.EmptyHarts.{map-empty}
 use Rattle.guest_atomics.proofs.harts.Harts.clear_all.Goals as goal
 
 pub invariant_of-self : goal.invariant_of-self
 invariant_of-self c = record {
   free = λ none other apart d. rw c.end_all.ensures.value (All-unreserved c.self.inside.items.items other d);
-  idle = rw c.end_all.ensures.value (map-idle unreserved (λ hart. refl) c.self.inside.used c.self.inside.items.items c.self.invariant.idle);
+  empty = rw c.end_all.ensures.value (map-empty unreserved refl c.self.inside.used c.self.inside.items.items c.self.invariant.empty);
   within = c.self.invariant.within;
 }
 

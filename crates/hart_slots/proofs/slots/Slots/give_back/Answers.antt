@@ -1,4 +1,4 @@
-use Rattle.std.proofs.Common.{◌≤◌, ◌∙◌, ap, sym, length, option_map, arith}
+use Rattle.std.proofs.Common.{◌≤◌, ap, sym, length, option_map, arith}
 use Rattle.std.proofs.lemmas.Option.{slice_get_past}
 use Rattle.guest_words.specs.State.{on_hart}
 use Rattle.run_history.specs.After.{given_back}

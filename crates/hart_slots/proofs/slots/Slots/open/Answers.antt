@@ -1,4 +1,3 @@
-use Rattle.std.proofs.Common.{◌∙◌, ap, sym}
 use Rattle.guest_words.specs.Harts.{opened}
 use Rattle.hart_slots.proofs.OneChange.{changed-absent, hart-within, opened-in_place, opened-read}
 use Rattle.hart_slots.proofs.slots.Slots.open.Goals as goal

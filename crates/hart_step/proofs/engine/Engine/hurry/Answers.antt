@@ -9,6 +9,7 @@ use Rattle.guest_words.specs.State.{frames_at}
 use Rattle.hart_step.specs.Legs.{IsLeg}
 use Rattle.hart_step.specs.Live.{Live}
 use Rattle.hart_step.specs.declared.engine.Engine.TheInside.{Inside}
+use Rattle.hart_step.proofs.Engines.{left_steps}
 use Rattle.hart_step.proofs.Hurried.{hurried, after_row, Hurried}
 use Rattle.hart_step.proofs.engine.Engine.hurry.Goals as goal
 
@@ -43,13 +44,14 @@ module _ (c : goal.After-self-1) where
       after_row before.state c.args.hart c.in_row-ran.result.count inside.guest.memory c.in_row-ran.new.guest.memory c.in_row-ran.new.slots c.close_where.new.slots
       c.in_row-ran.new.guest.points c.from-2.result
 
-  abbrev done : Hurried c.args.noted before.state c.args.hart c.in_row-ran.result.count c.in_row-ran.result.closed inside.guest.memory c.in_row-ran.new.guest.memory new
+  abbrev done :
+      Hurried c.args.noted before.state c.args.hart c.in_row-ran.result.count c.min-most.result c.in_row-ran.result.closed c.in_row-ran.result.did inside.guest.memory c.in_row-ran.new.guest.memory new
   done =
       let few = c.in_row-ran.ensures.within in
       let least = c.min-most.ensures in
       let within = c.self.invariant.within in
-      hurried before.state c.args.hart c.in_row-ran.result.count inside.guest.memory c.in_row-ran.new.guest.memory c.in_row-ran.new.slots c.args.noted c.in_row-ran.result.closed c.close_where.new.slots
-      c.in_row-ran.new.guest.points c.from-2.result refl refl refl
+      hurried before.state c.args.hart c.in_row-ran.result.count inside.guest.memory c.in_row-ran.new.guest.memory c.in_row-ran.new.slots c.args.noted c.in_row-ran.result.closed c.in_row-ran.result.did c.close_where.new.slots
+      c.in_row-ran.new.guest.points c.from-2.result c.min-most.result refl refl refl
       (ap (λ (l : Live). is_ready_at l.state c.args.hart) is ∙ c.requires.ready)
       (ap (λ (l : Live). is_budget_spent l.state) is ∙ c.requires.left)
       (subst (λ (l : Live). IsFreeBut c.args.hart (map hart_of l.state.slots)) (sym is) c.requires.free)
@@ -81,3 +83,12 @@ returns-clause-stays c = λ stays. (done c).stays stays ∙ ap (λ (l : Live). f
 
 pub returns-clause-closed : goal.returns-clause-closed
 returns-clause-closed c = λ over. subst (λ (l : Live). frames_at (new c) c.args.hart < frames_at l.state c.args.hart) (is c) ((done c).over over)
+
+pub returns-clause-stops : goal.returns-clause-stops
+returns-clause-stops c = λ stays fewer left.
+    let few = c.in_row-ran.ensures.within in
+    let least = c.min-most.ensures in
+    let within = c.self.invariant.within in
+    let count = c.from-2.ensures in
+    let more = left_steps (new c) (omega (arith, few, least, within, count)) left in
+    (done c).stops stays (omega (arith, few, least, within, count, more, fewer))

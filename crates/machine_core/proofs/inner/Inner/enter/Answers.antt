@@ -13,7 +13,7 @@ use Rattle.edge_ports.specs.Seen.{Seen}
 use Rattle.run_history.specs.Ahead.{ahead}
 use Rattle.run_history.proofs.Arrivals.{act_arrives}
 use Rattle.hart_step.specs.Live.{Live}
-use Rattle.open_calls.specs.Nest.{Nest, mark_in, opened}
+use Rattle.open_calls.specs.Nest.{Nest, Stack, mark_in, opened}
 use Rattle.machine_core.specs.Inner.{Inner, IsGoing, inner_of, whole_in}
 use Rattle.machine_core.specs.OpenSteps.{EntersAt}
 use Rattle.machine_core.proofs.Growing.{unnoted_mark}
@@ -42,7 +42,7 @@ open-requires-clause-few g c =
     let arrives : act_of s c.self.inside.calls.hart ≡ Arrival c.args.point = subst (λ (x : Inner). act_of x.live.state x.hart ≡ Arrival c.args.point) (sym c.self.view_is) c.requires.arrives in
     let few = arrival_few s c.self.inside.calls.hart c.args.point arrives in
     let level = going.framed in
-    let same = ap (λ (n : Nest). length n.outers) c.make_room.ensures.nest in
+    let same = ap (λ (s : Stack). length s.nest.outers) c.next_list.ensures.same ∙ ap (λ (n : Nest). length n.outers) c.make_room.ensures.nest in
     omega (arith, few, level, same)
 
 abbrev w : (g : given.Over) (c : goal.After-open g) → Inner
@@ -64,10 +64,12 @@ live : (g : given.Over) (c : goal.After-open g) → (v g c).live ≡ record (w g
 live g c = c.in_ok-enter.ensures.ok ∙ (λ i. record c.self.inside.engine { state = enter c.self.inside.engine.state (c.hart-hart.ensures.value i) c.args.point })
 
 nest : (g : given.Over) (c : goal.After-open g) → (v g c).nest ≡ opened c.args.point c.in_ok-kept.kept c.length-mark.result (w g c).nest
-nest g c = c.open.ensures.nest ∙ ap (opened c.args.point c.in_ok-kept.kept c.length-mark.result) c.make_room.ensures.nest
+nest g c =
+    c.open.ensures.nest
+    ∙ ap (opened c.args.point c.in_ok-kept.kept c.length-mark.result) (ap (λ (s : Stack). s.nest) c.next_list.ensures.same ∙ c.make_room.ensures.nest)
 
 hart : (g : given.Over) (c : goal.After-open g) → (v g c).hart ≡ (w g c).hart
-hart g c = c.open.ensures.hart ∙ c.make_room.ensures.hart
+hart g c = c.open.ensures.hart ∙ ap (λ (s : Stack). s.hart) c.next_list.ensures.same ∙ c.make_room.ensures.hart
 
 pub invariant_of-self-2 : goal.invariant_of-self-2
 invariant_of-self-2 g c =

@@ -30,6 +30,7 @@ invariant_of-self c =
           (c.join.ensures.entries ∙ (λ i. (outer i).entries ++ Entered c.self.inside.hart c.in-Some.outer.point ∷ (inner i).entries))
           (omega (arith, used, x, y)),
       omega (arith, places, capacity),
+      c.keep_where.ensures.none,
     )
 
 pub returns-in-Some : goal.returns-in-Some

@@ -25,6 +25,7 @@ invariant_of-self c =
           (subst (λ (p : HistoryView). Rooms acts p (turned (c.self.inside.outers.items ++ o ∷ []))) (sym c.replace-entries.ensures.after)
           (open_rooms c.self.inside.acts acts c.self.inside.top c.args.list o c.self.inside.outers.items c.self.invariant.0 c.one_less-self-inside.ensures.less c.one_less-self-inside.ensures.few c.replace-entries.ensures.value c.requires.fresh)),
       omega (arith, places, capacity),
+      c.self.invariant.2,
     )
 
 pub returns-clause-nest : goal.returns-clause-nest

@@ -14,4 +14,5 @@ invariant_of-self c =
       put_rooms c.self.inside.acts top c.put_acts.new.self (turned c.self.inside.outers.items) c.self.invariant.0 acts
           (omega (arith, e, more)) c.put_acts.ensures.room,
       c.self.invariant.1,
+      c.self.invariant.2,
     )

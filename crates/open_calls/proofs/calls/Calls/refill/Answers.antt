@@ -15,6 +15,7 @@ invariant_of-self-in_err-refill c =
       subst (λ (xs : List Outer). Rooms c.self.inside.acts c.make_in.new.list (turned xs)) (sym is)
           (rooms_roomier c.self.inside.acts c.self.inside.top c.make_in.new.list (turned c.self.inside.outers.items) (turned c.refill.new.outers) c.make_in.ensures.same old c.self.invariant.0),
       c.self.invariant.1,
+      c.self.invariant.2,
     )
 
 pub returns-in_err-refill-clause-nest : goal.returns-in_err-refill-clause-nest

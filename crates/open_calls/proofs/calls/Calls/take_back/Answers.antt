@@ -17,6 +17,7 @@ invariant_of-self c =
       subst (λ (p : HistoryView). Rooms acts p (turned c.pop.new.self.items)) (sym c.replace-inside.ensures.after)
           (take_rooms c.self.inside.acts acts c.self.inside.top c.in-Some.outer (turned c.pop.new.self.items) (omega (arith, few, whole)) room),
       omega (arith, places, capacity),
+      c.self.invariant.2,
     )
 
 pub returns-clause-was : goal.returns-clause-was
