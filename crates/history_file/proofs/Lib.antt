@@ -1,0 +1,10 @@
+pub mod Loop
+pub mod Exact
+pub mod FieldLaws
+pub mod ValueLaws
+pub mod Inside
+pub mod RecordLaws
+pub mod EntryLaws
+pub mod FileLaws
+pub mod Lengths
+pub mod PlaceLaws

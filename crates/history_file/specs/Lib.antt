@@ -1,0 +1,5 @@
+pub mod Numbers
+pub mod HistoryBytes
+pub mod Spelled
+pub mod Reading
+pub mod FileKind
