@@ -3,3 +3,4 @@ pub mod HistoryBytes
 pub mod Spelled
 pub mod Reading
 pub mod FileKind
+pub mod Starts

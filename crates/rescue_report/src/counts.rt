@@ -8,7 +8,7 @@ use run_history::Entry;
 /// What entries hold, all insides included. The sums have 128 bits, which no history that fits in
 /// memory can pass, so a sum beyond them is answered as want of memory.
 #[derive(Clone, Copy, Debug, PartialEq, Eq)]
-pub(crate) struct Counts {
+pub struct Counts {
     /// Instructions, and one for each call on a device.
     pub steps: u128,
     /// Calls on devices.

@@ -15,6 +15,7 @@ mod summary;
 #[cfg(test)]
 mod tests;
 
+pub use counts::Counts;
 pub use list_fault::ListFault;
 pub use list_put::put_list;
 pub use report::report_text;

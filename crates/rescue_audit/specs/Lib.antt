@@ -1,0 +1,4 @@
+pub mod Matches
+pub mod Verdict
+pub mod AuditLines
+pub mod Walk
