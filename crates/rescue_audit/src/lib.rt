@@ -7,6 +7,8 @@ mod lines;
 mod matching;
 mod no;
 mod replay;
+#[cfg(test)]
+mod tests;
 mod verdict;
 mod walk;
 
