@@ -6,9 +6,9 @@
 Checks of each case what needs no model: the program ends, by a status of the manual's table, with
 one line or with a report that adds up; the output, the report and the files of ports are the same
 bytes at a second run, with one hart also under another seed; and `run`, where it is built, ends so
-too, with one hart exactly as `alone`. A case is made of the seed and its number alone: `--first N
---cases 1` makes it again. Files of a finding stay in a folder that is named. Ends with 1 if there
-are any.
+too, with one hart exactly as `alone`. Want of memory is a finding too, as no case needs much. A
+case is made of the seed and its number alone: `--first N --cases 1` makes it again. Files of a
+finding stay in a folder that is named. Ends with 1 if there are any.
 """
 import argparse
 import os
@@ -26,6 +26,9 @@ from rescue_points import points_text, random_points
 LISTED = re.compile(rb"([0-9a-f]{16}) (\d+) (.*)")
 SUMMARY = re.compile(rb"load \d+\nbytes \d+\nsum (?:\d+|none)\nsteps \d+\nrecords \d+\n"
                      rb"rescues \d+\nend [^\n]*\n")
+
+# The status of a run that memory was wanting for.
+WANTING = 75
 
 
 class Case:
@@ -127,6 +130,8 @@ class Runs:
 
     def checked(self, words, came):
         """What is wrong with an outcome of these words."""
+        if came.status == WANTING and came.report() is None:
+            return ["memory was wanting"]
         if came.refusal() is None and words[:1] in (["list"], ["load"]):
             return told_faults(words, came)
         return outcome.faults_of(came, self.case.expected(words))

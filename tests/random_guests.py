@@ -11,6 +11,10 @@ DATA, DATA_SIZE = 0x20000, 8192
 ANY = [5, 6, 7, 10, 11, 12, 13, 14, 15, 16, 28, 29, 30, 31]
 TEMPORARY = [0, *ANY]
 MOST_FUNCTIONS = 5
+# Ends of ranges, as a number and how far it is shifted: of words, of pages, of the data and the
+# heap, of the area of mapped pages.
+ENDS = [(0, 0), (1, 0), (-1, 0), (1, 63), (1, 31), (1, 32), (1, 12), (-1, 12), (0x10, 13),
+        (0x11, 13), (0x7F, 31), (0xFF, 30), (1, 26), (1, 30)]
 
 
 class Guest:
@@ -88,7 +92,7 @@ class Guest:
     def body(self, count, callees, faults):
         """So many pieces in a row."""
         pieces = [self.compute] * 5 + [self.access] * 5 + [self.atomic] * 2 + [self.skip] * 2 + [
-            self.system] * 4 + faults
+            self.system] * 4 + [self.call_at_ends] + faults
         pieces += [lambda: self.call(callees)] * (8 if callees else 1)
         for _ in range(count):
             self.random.choice(pieces)()
@@ -205,6 +209,18 @@ class Guest:
             self.unmap(pages)
         else:
             code.call(number, *values)
+
+    def call_at_ends(self):
+        """A call whose arguments lie at the ends of ranges, or one beside them."""
+        code, random = self.code, self.random
+        for register in range(words.A0, words.A0 + 3):
+            number, shift = random.choice(ENDS)
+            code.op("addi", register, 0, number)
+            code.op("slli", register, register, shift)
+            code.op("addi", register, register, random.choice([0, 0, 0, -1, 1]))
+        code.put(words.A0 + 3, 0x22)
+        code.call(random.choice([words.BRK, words.MMAP, words.MUNMAP, words.MUNMAP, words.READ,
+                                 words.WRITE, words.CLOSE, words.FUTEX, words.CLONE]))
 
     def unmap(self, pages):
         """MUNMAP of the first pages of the area, or of the answer of an MMAP before."""

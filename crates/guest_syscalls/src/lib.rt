@@ -7,5 +7,5 @@ mod requests;
 #[cfg(test)]
 mod tests;
 
-pub use replies::answer;
+pub use replies::{answer, is_in_area};
 pub use requests::ask;

@@ -181,7 +181,8 @@ fn unmap(place: u64, length: u64) -> Reply
     }
 }
 
-fn is_in_area(place: u64, count: u64) -> bool
+/// Whether so many pages from a place on lie in the area of mapped pages.
+pub fn is_in_area(place: u64, count: u64) -> bool
     ensures value { result ≡ is_in_area place count }
 {
     place >= MAP_FROM && place <= MAP_END && count <= (MAP_END - place) / PAGE

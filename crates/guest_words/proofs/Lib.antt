@@ -7,6 +7,7 @@ pub mod EffectsShown
 pub mod FaultsShown
 pub mod ImageCases
 pub mod ImageLaws
+pub mod LimitsShown
 pub mod Listing
 pub mod Mapping
 pub mod OneRow

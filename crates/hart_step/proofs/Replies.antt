@@ -57,7 +57,7 @@ Brings s h (request.Wake place value) (reply.Rouse most) = Unit {0}
 Brings s h (request.Clone flags stack parent tls child) (reply.Child slot) = free_slot s.slots ≡ Some slot
 Brings s h (request.Break asked) (reply.Break to) = to ≡ (if nat_lt asked s.low || nat_lt (s.low + HEAP_BYTES) asked then s.brk else asked)
 Brings s h (request.Map size prot flags) (reply.Map place count rights) = (count ≡ pages_in size) × (free_place s.memory (pages_in size) ≡ Some place) × (rights ≡ mapped_rights prot)
-Brings s h (request.Unmap from size) (reply.Unmap place count) = (count ≡ pages_in size) × ((not (place % PAGE == 0) || (size == 0) || not (is_in_area place count)) ≡ false)
+Brings s h (request.Unmap from size) (reply.Unmap place count) = (count ≡ pages_in size) × ((not (place % PAGE == 0) || (size == 0) || not (is_in_area place count)) ≡ false) × (place ≡ from)
 Brings s h _ _ = ⊥
 
 module _ (s : State) (h : ℕ) where
@@ -96,7 +96,7 @@ module _ (s : State) (h : ℕ) where
       by None is = tt
       by (Some place) is = (refl, is, refl)
   brings (request.Unmap place size) =
-      either (request.Unmap place size) (not (place % PAGE == 0) || (size == 0) || not (is_in_area place (pages_in size))) _ _ (λ e. tt) (λ e. (refl, e))
+      either (request.Unmap place size) (not (place % PAGE == 0) || (size == 0) || not (is_in_area place (pages_in size))) _ _ (λ e. tt) (λ e. (refl, e, refl))
   brings request.Yield = tt
   brings request.Tid = tt
   brings request.Unknown = tt
@@ -221,12 +221,21 @@ map_rights s h call place count rights has = absurd has
 
 pub break_notes : (s : State) (h : ℕ) (call : Call) (to : ℕ) → Brings s h call (reply.Break to) → 1 + max 1 ((page_up s.brk - page_up to) / 4096) ≤ notes_of_call s call
 break_notes s h (request.Break asked) to has =
-    subst (λ (n : ℕ). 1 + max 1 ((page_up s.brk - page_up n) / 4096) ≤ 1 + max 1 ((page_up s.brk - page_up asked) / 4096)) (sym has)
-    (if_by (λ (n : ℕ). 1 + max 1 ((page_up s.brk - page_up n) / 4096) ≤ 1 + max 1 ((page_up s.brk - page_up asked) / 4096)) (nat_lt asked s.low || nat_lt (s.low + HEAP_BYTES) asked) s.brk asked
-    (λ e. still (page_up s.brk) ((page_up s.brk - page_up asked) / 4096)) (λ e. omega arith))
+    let end = max s.low asked in
+    subst (λ (n : ℕ). 1 + max 1 ((page_up s.brk - page_up n) / 4096) ≤ 1 + max 1 ((page_up s.brk - page_up end) / 4096)) (sym has)
+    (if_by (λ (n : ℕ). 1 + max 1 ((page_up s.brk - page_up n) / 4096) ≤ 1 + max 1 ((page_up s.brk - page_up end) / 4096)) (nat_lt asked s.low || nat_lt (s.low + HEAP_BYTES) asked) s.brk asked
+    (λ e. still (page_up s.brk) ((page_up s.brk - page_up end) / 4096)) (λ e. within (nat_lt asked s.low) (nat_lt (s.low + HEAP_BYTES) asked) refl e))
   where
     still : (up other : ℕ) → 1 + max 1 ((up - up) / 4096) ≤ 1 + max 1 other
     still up other = let none : up - up ≡ 0 = omega arith in subst (λ (n : ℕ). 1 + max 1 (n / 4096) ≤ 1 + max 1 other) (sym none) (omega arith)
+
+    -- a break in the heap isn't below its beginning
+    within : (a b : Bool) → nat_lt asked s.low ≡ a → (a || b) ≡ false → 1 + max 1 ((page_up s.brk - page_up asked) / 4096) ≤ 1 + max 1 ((page_up s.brk - page_up (max s.low asked)) / 4096)
+    within true b is e = absurd (cc)
+    within false b is e =
+        let from : s.low ≤ asked = grind (arith, nat_tests, is) in
+        let same : max s.low asked ≡ asked = omega (arith, from) in
+        subst (λ (n : ℕ). 1 + max 1 ((page_up s.brk - page_up asked) / 4096) ≤ 1 + max 1 ((page_up s.brk - page_up n) / 4096)) (sym same) (omega arith)
 break_notes s h call to has = absurd has
 
 pub break_heap : (s : State) (h : ℕ) (call : Call) (to : ℕ) → Brings s h call (reply.Break to) → s.low ≤ s.brk → s.brk ≤ s.low + 67108864 → (s.low ≤ to) × (to ≤ s.low + 67108864)
@@ -245,7 +254,16 @@ map_notes s h (request.Map size prot flags) place count rights has = refl
 map_notes s h call place count rights has = absurd has
 
 pub unmap_notes : (s : State) (h : ℕ) (call : Call) (place count : ℕ) → Brings s h call (reply.Unmap place count) → notes_of_call s call ≡ count
-unmap_notes s h (request.Unmap from size) place count has = sym has.0
+unmap_notes s h (request.Unmap from size) place count has =
+    let lies : is_in_area place count ≡ true = not-false _ (or_last (not (place % PAGE == 0)) (size == 0) _ has.1) in
+    ap (λ (at : ℕ). if is_in_area at (pages_in size) then pages_in size else 1) (sym has.2)
+    ∙ ap (λ (n : ℕ). if is_in_area place n then n else 1) (sym has.0)
+    ∙ ap (λ (b : Bool). if b then count else 1) lies
+  where
+    or_last : (a b c : Bool) → (a || b || c) ≡ false → c ≡ false
+    or_last true b c e = absurd (cc)
+    or_last false true c e = absurd (cc)
+    or_last false false c e = e
 unmap_notes s h call place count has = absurd has
 
 -- a call that can want memory has no other reply

@@ -1,8 +1,8 @@
 //! Acts of a hart.
-ghost use Rattle.std.specs.Prelude.{◌≡◌, ◌+◌, ◌<◌, ◌≤◌, true, false, length, Some, IfOk, OnErr, OnOk};
+ghost use Rattle.std.specs.Prelude.{◌≡◌, ◌+◌, ◌<◌, ◌≤◌, true, false, if◌then◌else◌, length, Some, IfOk, OnErr, OnOk};
 ghost use Rattle.guest_words.specs.Act.{replied};
 ghost use Rattle.guest_words.specs.CallChanges.{facts_of};
-ghost use Rattle.guest_words.specs.Calls.{reply_of};
+ghost use Rattle.guest_words.specs.Calls.{is_in_area, reply_of};
 ghost use Rattle.guest_words.specs.Endings.{is_budget_spent};
 ghost use Rattle.guest_memory.specs.Noting.{Notes};
 ghost use Rattle.run_history.specs.After.{moved, next};
@@ -15,6 +15,7 @@ ghost use Rattle.hart_step.specs.Stops.{can_want, wants_memory};
 use crate::engine::Engine;
 use crate::mapping::page_up;
 use crate::next_act::NextAct;
+use guest_syscalls::is_in_area;
 use guest_words::limits::{PAGE, TRANSFER};
 use guest_words::{Act, MemoryWant, Request};
 use std::alloc::Global;
@@ -148,15 +149,28 @@ impl Engine {
     {
         match *request {
             Request::Read { size, .. } => size.min(TRANSFER),
-            Request::Break { to } => {
-                let brk = self.guest.memory.brk();
-                let gone = page_up(brk) - page_up(to.min(brk));
-                1 + (gone / PAGE).max(1)
-            }
-            Request::Unmap { length, .. } => length.div_ceil(PAGE),
+            Request::Break { to } => self.notes_of_break(to),
+            Request::Unmap { place, length } => notes_of_unmap(place, length.div_ceil(PAGE)),
             _ => 1,
         }
     }
+
+    // How many notes a move of the break can make: no page of the heap lies below its beginning.
+    fn notes_of_break(&self, to: u64) -> u64
+        ensures value { result ≡ notes_of_call self.now.state (Request.Break to) }
+    {
+        let brk = self.guest.memory.brk();
+        let end = self.guest.memory.low().max(to);
+        let gone = page_up(brk) - page_up(end.min(brk));
+        1 + (gone / PAGE).max(1)
+    }
+}
+
+// How many notes can be made where so many pages go: a call outside their area changes nothing.
+fn notes_of_unmap(place: u64, count: u64) -> u64
+    ensures value { result ≡ (if is_in_area place count then count else 1) }
+{
+    if is_in_area(place, count) { count } else { 1 }
 }
 
 fn can_want(noted: bool, request: &Request) -> bool
