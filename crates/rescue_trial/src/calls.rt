@@ -74,7 +74,8 @@ fn make_act(
     requires goes { can_go plain.old actor ≡ true }
     ensures after { OnOk result (plain.new ≡ next plain.old actor) }
     ensures calls { OnOk result (calls.new.items
-        ≡ stepped (begins functions.now) hart actor plain.old (next plain.old actor) calls.old.items) }
+        ≡ stepped (begins functions.now) hart actor plain.old
+        (next plain.old actor) calls.old.items) }
 {
     let was_free = is_free(plain, hart);
     if !plain.go(alloc, actor)? {

@@ -1,5 +1,6 @@
 //! The call path of a hart.
-ghost use Rattle.std.specs.Prelude.{◌≡◌, ◌≤◌, ◌<◌, ◌==◌, [], ◌∷◌, ◌++◌, map, reverse, take, if◌then◌else◌, IfOk, OnOk};
+ghost use Rattle.std.specs.Prelude.{◌≡◌, ◌≤◌, ◌==◌, [], ◌∷◌, ◌++◌, if◌then◌else◌, IfOk, OnOk};
+ghost use Rattle.std.specs.Prelude.{map, reverse, take};
 ghost use Rattle.std.specs.List.{list_any};
 ghost use Rattle.guest_words.specs.declared.limits.TheConstants.{BUDGET, HARTS};
 ghost use Rattle.guest_words.specs.Image.{IsLoadList};

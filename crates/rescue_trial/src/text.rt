@@ -1,10 +1,11 @@
 //! The text of trials.
-ghost use Rattle.std.specs.Prelude.{◌≡◌, [], ◌∷◌, ◌++◌, length, codes, IfOk, OnOk, string_bytes};
+ghost use Rattle.std.specs.Prelude.{◌≡◌, [], ◌∷◌, ◌++◌, codes, IfOk, OnOk, string_bytes};
 ghost use Rattle.std.specs.Fmt.{decimal};
 ghost use Rattle.std.specs.List.{flat_map};
 ghost use Rattle.rescue_report.specs.Lines.{ending_words, line};
 ghost use Rattle.rescue_report.specs.Numbers.{hexadecimal};
-ghost use Rattle.rescue_trial.specs.TrialText.{good_line, good_of, name_at, trial_text_of, try_line};
+ghost use Rattle.rescue_trial.specs.TrialText.{good_line, good_of, name_at, try_line};
+ghost use Rattle.rescue_trial.specs.TrialText.{trial_text_of};
 
 use crate::trial::Trial;
 use crate::trials::Trials;
