@@ -46,8 +46,9 @@ impl Plain {
         self.engine.run(hart, most, &mut none, false).count
     }
 
-    // Makes an ordinary act, where the hart can go on by one, and answers whether it was made.
-    fn go(&mut self, alloc: Global, hart: u8) -> Result<bool, MemoryWant>
+    /// Makes an ordinary act, where the hart can go on by one, and answers whether it was made. The
+    /// hart is in a slot; where no slot is, it can't go on.
+    pub fn go(&mut self, alloc: Global, hart: u8) -> Result<bool, MemoryWant>
         ensures value { IfOk result (λ is. is ≡ can_go self.old hart) }
         ensures after { IfOk result (λ is. is ≡ true → self.new ≡ next self.old hart) }
         ensures same { IfOk result (λ is. is ≡ false → self.new ≡ self.old) }

@@ -16,7 +16,9 @@ mod summary;
 mod tests;
 
 pub use counts::Counts;
+pub use lines::put_count;
 pub use list_fault::ListFault;
 pub use list_put::put_list;
+pub use numbers::put_hexadecimal;
 pub use report::report_text;
 pub use summary::summary_text;

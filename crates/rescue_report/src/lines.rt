@@ -10,7 +10,7 @@ use std::alloc::Global;
 const ROOM: usize = 160;
 
 /// Appends the line of a number with its name.
-pub(crate) fn put_count(text: &mut String, name: &str, number: u128) -> Result<(), MemoryWant>
+pub fn put_count(text: &mut String, name: &str, number: u128) -> Result<(), MemoryWant>
     ensures ok { OnOk result
         (string_bytes text.new ≡ string_bytes text.old ++ count_line name.now number) }
 {

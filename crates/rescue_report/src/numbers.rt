@@ -4,7 +4,7 @@ ghost use Rattle.rescue_report.specs.Numbers.{code_text, hexadecimal};
 use guest_words::{MemoryWant, Ret};
 
 /// Appends a word in 16 hexadecimal digits.
-pub(crate) fn put_hexadecimal(text: &mut String, word: u64) -> Result<(), MemoryWant>
+pub fn put_hexadecimal(text: &mut String, word: u64) -> Result<(), MemoryWant>
     ensures ok { OnOk result
         (string_bytes text.new ≡ string_bytes text.old ++ hexadecimal word) }
 {
