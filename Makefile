@@ -1,10 +1,11 @@
-# Builds the program and puts it on a machine with its pages:
+# Puts the program on a machine with its pages, and tries it:
 #
 #     make install PREFIX=$HOME/.local
 #
-# The toolchain (`rt version`) is needed to build it, not to run it. The first build proves all
-# that it stands on. With Debian's package pandoc the manual becomes a man page too. `make check`
-# runs the examples.
+# `install`, `check` and `test` take the program that is built, PROGRAM, where there is one. `make
+# build` proves and builds it from what stands here, which takes the toolchain (`rt version`) and,
+# the first time, an hour; the others do so where no program is there. `check` runs the examples,
+# `test` the scripts of tests/ with small counts, in some minutes.
 
 PREFIX = /usr/local
 DESTDIR =
@@ -13,34 +14,41 @@ PROGRAM = crates/rescue/out/rescue
 BIN = $(DESTDIR)$(PREFIX)/bin
 MAN = $(DESTDIR)$(PREFIX)/share/man/man1
 DOC = $(DESTDIR)$(PREFIX)/share/doc/rescue
+PAGES = README.md CHANGELOG.md LICENSE
 
-NAME_LINES = \# NAME\n\nrescue - run a RISC-V program under rescue points\n\n\# DESCRIPTION
+.PHONY: program build install uninstall check test
 
-.PHONY: program install uninstall check
-
-# Proves and builds what has changed, and has the program list the functions of a guest.
 program:
-	@if command -v rt > /dev/null; then \
-	    cd crates/rescue && rt run -- list ../../examples/server/server > /dev/null; \
-	elif [ ! -x $(PROGRAM) ]; then \
+	@if [ -x $(PROGRAM) ]; then \
+	    echo "takes $(PROGRAM) as it is built"; \
+	elif command -v rt > /dev/null; then \
+	    $(MAKE) build; \
+	else \
 	    echo "neither rt nor $(PROGRAM) is there" >&2; exit 1; \
 	fi
 
+# Proves and builds what has changed, and has the program list the functions of a guest.
+build:
+	cd crates/rescue && rt run -- list ../../examples/server/server > /dev/null
+
 install: program
-	install -d $(BIN) $(DOC)/docs
+	install -d $(BIN) $(MAN) $(DOC)/docs
 	install -m 755 $(PROGRAM) $(BIN)/rescue
-	install -m 644 README.md $(DOC)
+	install -m 644 docs/rescue.1 $(MAN)
+	install -m 644 $(PAGES) $(DOC)
 	install -m 644 docs/*.md $(DOC)/docs
 	tar -c --exclude=build --exclude=source examples | tar -x --no-same-owner -C $(DOC)
-	@if command -v pandoc > /dev/null; then \
-	    install -d $(MAN) && sed -e '1s/.*/$(NAME_LINES)/' -e 's/^##/#/' docs/MANUAL.md \
-	        | pandoc -s -f gfm -t man -M title=RESCUE -M section=1 -o $(MAN)/rescue.1; \
-	else \
-	    echo "no man page: pandoc isn't there"; \
-	fi
 
 uninstall:
 	rm -rf $(BIN)/rescue $(MAN)/rescue.1 $(DOC)
 
 check: program
 	examples/check.sh $(PROGRAM)
+
+test: program
+	tests/gate_guests.py
+	tests/tables.py $(PROGRAM)
+	tests/streams.py $(PROGRAM)
+	tests/threads.py $(PROGRAM) --runs 20
+	tests/refusals.py $(PROGRAM) --every 97
+	tests/campaign.py $(PROGRAM) --cases 1000

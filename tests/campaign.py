@@ -10,7 +10,6 @@ too, with one hart exactly as `alone`. Want of memory is a finding too, as no ca
 case is made of the seed and its number alone: `--first N --cases 1` makes it again. Files of a
 finding stay in a folder that is named. Ends with 1 if there are any.
 """
-import argparse
 import os
 import re
 import shutil
@@ -22,6 +21,7 @@ from outcome import Expected
 from random_files import broken_elf, broken_points, random_words
 from random_guests import random_guest
 from rescue_points import points_text, random_points
+from workplace import parser, workplace
 
 LISTED = re.compile(rb"([0-9a-f]{16}) (\d+) (.*)")
 SUMMARY = re.compile(rb"load \d+\nbytes \d+\nsum (?:\d+|none)\nsteps \d+\nrecords \d+\n"
@@ -170,18 +170,24 @@ def keep(number, findings):
     print(f"case {number}: {'; '.join(findings)}: {kept}", flush=True)
 
 
+def words_read():
+    """The script's words."""
+    words = parser(__doc__)
+    words.add_argument("--seed", type=int, default=1, metavar="N",
+                       help="what all cases are made of (default: 1)")
+    words.add_argument("--first", type=int, default=0, metavar="N",
+                       help="the number of the first case (default: 0)")
+    words.add_argument("--cases", type=int, default=1000, metavar="N",
+                       help="how many cases are run (default: 1000)")
+    return words.parse_args()
+
+
 def main():
     """Runs the cases."""
-    parser = argparse.ArgumentParser()
-    parser.add_argument("rescue")
-    parser.add_argument("--seed", type=int, default=1)
-    parser.add_argument("--first", type=int, default=0)
-    parser.add_argument("--cases", type=int, default=1000)
-    options = parser.parse_args()
-    rescue = os.path.abspath(options.rescue)
+    options = words_read()
+    rescue = options.rescue
     found, threads, kinds = 0, None, {}
-    with tempfile.TemporaryDirectory(dir="/dev/shm" if os.path.isdir("/dev/shm") else None) as here:
-        os.chdir(here)
+    with workplace("/dev/shm" if os.path.isdir("/dev/shm") else None):
         for number in range(options.first, options.first + options.cases):
             case = Case(options.seed, number)
             if threads is None:
@@ -196,7 +202,6 @@ def main():
                 keep(number, findings)
             if (number + 1) % 1000 == 0:
                 print(f"{number + 1} cases, {found} findings, {kinds}", flush=True)
-        os.chdir("/")
     print(f"{options.cases} cases, {found} findings")
     return 1 if found else 0
 

@@ -8,13 +8,11 @@ a file: of the 5,000,000 steps of the default budget), and the greatest memory. 
 1 GiB of addresses, a file of 300 MB and 60 seconds of processor time; a run that wants more is
 named by how it ended.
 """
-import argparse
-import os
 import subprocess
 import sys
-import tempfile
 
 from dear_guests import file_rows, guest_rows
+from workplace import parser, workplace
 
 # Runs the program from a small process, since memory counts from that of its parent.
 LAUNCH = """
@@ -54,15 +52,14 @@ def ending(row, status):
 
 def main():
     """Prints the table."""
-    parser = argparse.ArgumentParser()
-    parser.add_argument("rescue")
-    parser.add_argument("--only", default="")
-    options = parser.parse_args()
-    rescue = os.path.abspath(options.rescue)
+    words = parser(__doc__)
+    words.add_argument("--only", default="", metavar="WORD",
+                       help="only the rows whose names have this word")
+    options = words.parse_args()
+    rescue = options.rescue
     rows = guest_rows()
     print("| Guest or file | Steps | Seconds | Times the plain loop | MiB |\n|---|---|---|---|---|")
-    with tempfile.TemporaryDirectory() as here:
-        os.chdir(here)
+    with workplace():
         _, seconds, _ = measured(rescue, rows[0])
         step = seconds / rows[0].steps
         for row in rows + file_rows():
@@ -73,7 +70,6 @@ def main():
             steps = f"{row.steps:,}" if row.steps else "-"
             print(f"| {row.name}{ending(row, status)} | {steps} | {seconds:.2f} | {times:,.1f} "
                   f"| {memory:.0f} |", flush=True)
-        os.chdir("/")
 
 
 if __name__ == "__main__":

@@ -87,7 +87,7 @@ def run(program, words, stdin="/dev/null", environment=None):
     signal.alarm(SECONDS)
     try:
         _, code = os.waitpid(child, 0)
-    except Hung:
+    except BaseException:
         os.kill(child, signal.SIGKILL)
         os.waitpid(child, 0)
         raise

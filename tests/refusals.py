@@ -9,14 +9,13 @@ outcome is want of memory (its line and status 75, and output that is a beginnin
 run's) or the run's own, to the byte. Nothing crashes or hangs. Ends with 1 at any other outcome.
 `--every 7` tries each seventh allocation only.
 """
-import argparse
 import os
 import subprocess
-import tempfile
 from dataclasses import dataclass, field
 
 import outcome
 import worked_guests as guests
+from workplace import parser, workplace
 
 # The slots of a run, each with a worker; the last needs no thread of its own.
 THREADS = 8
@@ -148,18 +147,16 @@ def tried(refusals, run, every):
 
 def main():
     """Runs all, and ends with 1 where anything is wrong."""
-    parser = argparse.ArgumentParser()
-    parser.add_argument("rescue")
-    parser.add_argument("--only", default="")
-    parser.add_argument("--every", type=int, default=1)
-    options = parser.parse_args()
-    rescue = os.path.abspath(options.rescue)
-    with tempfile.TemporaryDirectory() as here:
-        os.chdir(here)
-        refusals = Refusals(rescue)
+    words = parser(__doc__)
+    words.add_argument("--only", default="", metavar="WORD",
+                       help="only the runs whose names have this word")
+    words.add_argument("--every", type=int, default=1, metavar="N",
+                       help="refuse each Nth allocation only (default: 1)")
+    options = words.parse_args()
+    with workplace():
+        refusals = Refusals(options.rescue)
         found = sum(tried(refusals, run, options.every) for run in runs()
                     if options.only in run.name)
-        os.chdir("/")
     return 1 if found else 0
 
 

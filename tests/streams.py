@@ -8,16 +8,17 @@
 it is -EIO. Says where status or line is another, and ends with 1.
 """
 import os
+import signal
 import subprocess
-import sys
-import tempfile
 
 import guest_code as words
 import worked_guests as guests
 from elf_files import plain_elf
 from guest_code import A0, A2, A7, ECALL, ZERO, Code
+from workplace import parser, workplace
 
 NOTHING, REPORT = "", "rescue-report 1"
+SECONDS = 300
 
 
 def copier(source, target):
@@ -104,22 +105,34 @@ def tried(row, rescue):
     name, line, status, first = row
     files = {"echo": copier(0, 1), "port": copier(3, 3), "server": guests.server()[0].bytes(),
              "input": b"one two\nthree\n"}
-    with tempfile.TemporaryDirectory() as here:
+    with workplace():
         for path, contents in files.items():
-            with open(os.path.join(here, path), "wb") as file:
+            with open(path, "wb") as file:
                 file.write(contents)
-        done = subprocess.run(["bash", "-c", line], cwd=here, env={**os.environ, "R": rescue},
-                              stdout=subprocess.DEVNULL, stderr=subprocess.PIPE, check=False,
-                              timeout=300)
-    lines = done.stderr.decode(errors="replace").splitlines() or [""]
-    if (done.returncode, lines[0]) == (status, first):
+        came, told = of_shell(line, rescue)
+    lines = told.decode(errors="replace").splitlines() or [""]
+    if (came, lines[0]) == (status, first):
         return None
-    return f"{name}: status {done.returncode} in place of {status}, line {lines[0]!r}"
+    return f"{name}: status {came} in place of {status}, line {lines[0]!r}"
+
+
+def of_shell(line, rescue):
+    """The status of a line of the shell, and what came on standard error. All that it started
+    ends with it."""
+    with subprocess.Popen(["bash", "-c", line], env={**os.environ, "R": rescue},
+                          stdout=subprocess.DEVNULL, stderr=subprocess.PIPE,
+                          start_new_session=True) as shell:
+        try:
+            _, told = shell.communicate(timeout=SECONDS)
+        except BaseException:
+            os.killpg(shell.pid, signal.SIGKILL)
+            raise
+    return shell.returncode, told
 
 
 def main():
     """Tries all."""
-    rescue = os.path.abspath(sys.argv[1])
+    rescue = parser(__doc__).parse_args().rescue
     differing = [text for text in (tried(row, rescue) for row in TRIED) if text]
     print("\n".join(differing) or f"{len(TRIED)} are as the manual says")
     return 1 if differing else 0

@@ -9,11 +9,10 @@ lines are those of the manual. Says where one differs, and ends with 1.
 """
 import os
 import struct
-import sys
-import tempfile
 
 import outcome
 import worked_guests as guests
+from workplace import parser, workplace
 
 Q = 64
 SECOND_SECTION = 64
@@ -145,11 +144,9 @@ def told_faults(rescue):
 
 def main():
     """Tries all."""
-    rescue = os.path.abspath(sys.argv[1])
-    with tempfile.TemporaryDirectory() as here:
-        os.chdir(here)
+    rescue = parser(__doc__).parse_args().rescue
+    with workplace():
         differing = [*file_faults(rescue), *device_faults(rescue), *told_faults(rescue)]
-        os.chdir("/")
     print("\n".join(differing) or "all is as the tables say")
     return 1 if differing else 0
 

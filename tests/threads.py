@@ -7,13 +7,12 @@ Each run has to end by itself with status 0, the output that stands beside the e
 any order) and a report that adds up. A guest that isn't built is left out (`make -C examples/words`).
 Says which runs differ and the longest time of one, and ends with 1 if any differs.
 """
-import argparse
 import os
 import sys
-import tempfile
 import time
 
 from outcome import Expected, Hung, faults_of, run
+from workplace import parser, workplace
 
 EXAMPLES = os.path.join(os.path.dirname(os.path.dirname(os.path.abspath(__file__))), "examples")
 
@@ -47,27 +46,24 @@ class Example:
 
 def main():
     """Runs each example so many times."""
-    parser = argparse.ArgumentParser()
-    parser.add_argument("rescue")
-    parser.add_argument("--runs", type=int, default=1000)
-    options = parser.parse_args()
-    program = os.path.abspath(options.rescue)
+    words = parser(__doc__)
+    words.add_argument("--runs", type=int, default=1000, metavar="N",
+                       help="how often each example is run (default: 1000)")
+    options = words.parse_args()
     examples = [example for example in map(Example, ("workers", "threads", "words"))
                 if os.path.exists(example.guest)]
     different = 0
-    with tempfile.TemporaryDirectory() as here:
-        os.chdir(here)
+    with workplace():
         for example in examples:
             longest = 0.0
             for number in range(options.runs):
                 began = time.monotonic()
-                faults = example.differences(program)
+                faults = example.differences(options.rescue)
                 longest = max(longest, time.monotonic() - began)
                 different += bool(faults)
                 for fault in faults:
                     print(f"{example.name}, run {number}: {fault}")
             print(f"{example.name}: {options.runs} runs, the longest {longest:.2f} s", flush=True)
-        os.chdir("/")
     sys.exit(1 if different else 0)
 
 
