@@ -4,8 +4,8 @@
 #define CALLS_H
 
 enum {
-    CALL_CLOSE = 57, CALL_READ = 63, CALL_WRITE = 64, CALL_EXIT_GROUP = 94, CALL_FUTEX = 98,
-    CALL_BRK = 214, CALL_MUNMAP = 215, CALL_MMAP = 222
+    CALL_CLOSE = 57, CALL_READ = 63, CALL_WRITE = 64, CALL_EXIT = 93, CALL_EXIT_GROUP = 94,
+    CALL_FUTEX = 98, CALL_YIELD = 124, CALL_BRK = 214, CALL_MUNMAP = 215, CALL_MMAP = 222
 };
 
 static inline long call(long number, long first, long second, long third)

@@ -11,7 +11,10 @@
    a null pointer then and reads at it: the fault published as CVE-2024-31755. By that time half of
    the answer has been printed, the counter of renames is up, and the parsed request is on the heap.
    Under a rescue point at handle such a request is answered with an error, and all of that is taken
-   back: the line of each request that has no answer says how much larger the heap became. */
+   back: the line of each request that has no answer says how much larger the heap became. A sale that
+   leaves a part of a piece is a mistake that an assertion finds, when the sale has been made: it
+   aborts, which is a fault like the others. The assertion's line is on stderr by then, and stays. */
+#include <assert.h>
 #include <malloc.h>
 #include <setjmp.h>
 #include <stdio.h>
@@ -96,6 +99,7 @@ static void sell(void)
         refuse("too few");
     cJSON_SetNumberValue(left, left->valuedouble - count);
     till += count * price;
+    assert(left->valuedouble == (long)left->valuedouble);
     printf("%g of %s for %.2f", count, name, count * price);
 }
 

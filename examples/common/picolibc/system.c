@@ -86,7 +86,5 @@ pid_t getpid(void)
 
 int kill(pid_t process, int number)
 {
-    (void)process;
-    (void)number;
-    return refused(EINVAL);
+    return process == getpid() ? raise(number) : refused(ESRCH);
 }
