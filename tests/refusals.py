@@ -1,6 +1,6 @@
 #!/usr/bin/env python3
-"""Refuses each allocation of the built program in turn, one alone and all from it on; and, on `run`,
-each thread and all behind it.
+"""Refuses each allocation of the built program in turn, one alone and all from it on; and, on
+`run`, each thread and all behind it.
 
     tests/refusals.py RESCUE [--only WORD] [--every N]
 

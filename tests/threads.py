@@ -3,8 +3,8 @@
 
     tests/threads.py RESCUE [--runs N]
 
-Each run has to end by itself with status 0, the output that stands beside the example (its lines in
-any order) and a report that adds up. A guest that isn't built is left out (`make -C examples/words`).
+Each run has to end by itself with status 0, the output that stands beside the example (its lines
+in any order) and a report that adds up. A guest that isn't built is left out (`make -C examples/words`).
 Says which runs differ and the longest time of one, and ends with 1 if any differs.
 """
 import os
