@@ -8,6 +8,7 @@ use Rattle.edge_ports.specs.Asked.{Asked, Loaded, Saved}
 use Rattle.edge_ports.specs.End.{Rose, raised_if}
 use Rattle.edge_ports.specs.InMemory.{counted, numbered}
 use Rattle.edge_ports.specs.Shelves.{Loads, Saves, ShelfState, first_named, is_failed, is_long, shelf_of}
+use Rattle.edge_ports.specs.declared.reason.Reason.{Reason}
 use Rattle.edge_ports.specs.declared.shelf.ShelfFault.{ShelfFault}
 use Rattle.edge_ports.specs.declared.shelf.ShelfFault.TheVariants.{Failed, TooLong, Memory}
 use Rattle.edge_ports.specs.declared.shelf_file.ShelfFile.{ShelfFile}
@@ -30,8 +31,8 @@ saved name bytes files result s =
       asked = s.asked ++ Saved name bytes (result_err result) ∷ [];
     }
 
-rose_if_failed : {T : Type 0} (result : Result T ShelfFault) (count : ℕ) → result ≡ Err Failed → Rose count (raised_if (is_failed result) count)
-rose_if_failed result count is = subst (λ r. Rose count (raised_if (is_failed r) count)) (sym is) (omega arith)
+rose_if_failed : {T : Type 0} (result : Result T ShelfFault) (count : ℕ) (reason : Reason) → result ≡ Err (Failed reason) → Rose count (raised_if (is_failed result) count)
+rose_if_failed result count reason is = subst (λ r. Rose count (raised_if (is_failed r) count)) (sym is) (omega arith)
 
 rose_if_long : (result : Result (List ℕ) ShelfFault) (count size : ℕ) → result ≡ Err (TooLong size) → Rose count (raised_if (is_long result) count)
 rose_if_long result count size is = subst (λ r. Rose count (raised_if (is_long r) count)) (sym is) (omega arith)

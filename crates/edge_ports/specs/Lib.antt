@@ -4,6 +4,7 @@ pub mod AskedBy
 pub mod DevicesMatch
 pub mod End
 pub mod InMemory
+pub mod Reasons
 pub mod Records
 pub mod Seen
 pub mod Shelves

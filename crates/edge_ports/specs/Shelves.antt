@@ -7,6 +7,7 @@ use Rattle.std.specs.declared.result.Result.{Result}
 use Rattle.edge_ports.specs.Asked.{Asked, Loaded, Saved}
 use Rattle.edge_ports.specs.End.{Rose}
 use Rattle.edge_ports.specs.InMemory.{CallCount}
+use Rattle.edge_ports.specs.declared.reason.Reason.{Reason}
 use Rattle.edge_ports.specs.declared.shelf.ShelfFault.{ShelfFault}
 use Rattle.edge_ports.specs.declared.shelf.ShelfFault.TheVariants.{Failed, TooLong}
 use Rattle.edge_ports.specs.declared.shelf_file.ShelfFile.{ShelfFile}
@@ -29,7 +30,8 @@ pub record Loads (old new : Shelved) (name : List ℕ) (limit : ℕ)
   pub within : IfOk result (λ bytes. length bytes ≤ limit)
   pub below : IfOk result (λ bytes. All (λ b. b < 256) bytes)
   pub told : IsTrue old.tells → IfOk result (λ bytes. old.file name ≡ Some bytes)
-  pub cause : result ≡ Err Failed → Rose (old.faults name) (new.faults name)
+  pub cause : (reason : Reason) → result ≡ Err (Failed reason)
+      → Rose (old.faults name) (new.faults name)
   pub long : (size : ℕ) → result ≡ Err (TooLong size)
       → Rose (old.longs name limit) (new.longs name limit)
   pub over : (size : ℕ) → result ≡ Err (TooLong size) → limit < size
@@ -51,7 +53,8 @@ pub record Saves {T : Type 0} (old new : Shelved) (name bytes : List ℕ)
   pub file : IsTrue old.tells → MatchResult result (λ _. new.file name ≡ Some bytes)
       (λ _. new.file name ≡ old.file name)
   pub others : (n : List ℕ) → n ≢ name → new.file n ≡ old.file n
-  pub cause : result ≡ Err Failed → Rose (old.save_faults name) (new.save_faults name)
+  pub cause : (reason : Reason) → result ≡ Err (Failed reason)
+      → Rose (old.save_faults name) (new.save_faults name)
   -- no save is too long
   pub short : (size : ℕ) → result ≢ Err (TooLong size)
   -- it was asked for this once, and for nothing else
@@ -98,7 +101,7 @@ untold_shelf faults save_faults longs asked = record {
 
 -- whether a call failed, and whether it answered that the file is too long
 abbrev pub is_failed : {T : Type 0} → Result T ShelfFault → Bool
-is_failed (Err Failed) = true
+is_failed (Err (Failed reason)) = true
 is_failed _ = false
 
 abbrev pub is_long : {T : Type 0} → Result T ShelfFault → Bool

@@ -4,6 +4,7 @@ ghost use Rattle.edge_ports.specs.End.{raised_if};
 ghost use Rattle.edge_ports.specs.Shelves.{is_failed, is_long, untold_shelf, Loads, Saves};
 
 use crate::reading::read_up_to;
+use crate::reason::Reason;
 use crate::shelf::{Shelf, ShelfFault};
 use crate::shelf_log::{ShelfCall, ShelfLog};
 use crate::writing::write_whole;
@@ -26,7 +27,8 @@ pub struct FileShelf<R> {
 impl<R: Files + Drop> Shelf for FileShelf<R> {
     ghost seen = { file_shelf };
 
-    /// Reads the file of that path. A file that can't be opened or read is `Failed`.
+    /// Reads the file of that path. A file that can't be opened or read is `Failed`, for
+    /// the system's reason.
     fn load(&mut self, alloc: Global, name: &str, limit: u64) -> Result<Bytes, ShelfFault>
         ensures loads { Loads (file_shelf self.old) (file_shelf self.new) name.now limit result }
         ensures counts { (file_shelf self.new).faults name.now
@@ -36,7 +38,7 @@ impl<R: Files + Drop> Shelf for FileShelf<R> {
     {
         let answer = load_file(&self.files, alloc, name, limit);
         match &answer {
-            Err(ShelfFault::Failed) => self.faults = self.faults.saturating_add(1),
+            Err(ShelfFault::Failed(_)) => self.faults = self.faults.saturating_add(1),
             Err(ShelfFault::TooLong { .. }) => self.longs = self.longs.saturating_add(1),
             _ => {}
         }
@@ -56,7 +58,7 @@ impl<R: Files + Drop> Shelf for FileShelf<R> {
             ≡ raised_if (is_failed result) ((file_shelf self.old).save_faults name.now) }
     {
         let answer = save_file(&self.files, alloc, name, bytes.items());
-        if answer == Err(ShelfFault::Failed) {
+        if let Err(ShelfFault::Failed(_)) = answer {
             self.save_faults = self.save_faults.saturating_add(1);
         }
         self.log = self.log.then(&ShelfCall::Save {
@@ -93,8 +95,9 @@ fn load_file<R: Files>(
     ensures below { IfOk result (λ bytes. All (λ b. b < 256) bytes) }
     ensures over { (size : ℕ) → result ≡ Err (ShelfFault.TooLong size) → limit < size }
 {
-    let Ok(mut file) = fs::open(files, name) else {
-        return Err(ShelfFault::Failed);
+    let mut file = match fs::open(files, name) {
+        Ok(file) => file,
+        Err(error) => return Err(ShelfFault::Failed(Reason::of(&error))),
     };
     let likely = length_of(&file, 0);
     match read_up_to(alloc, &mut file, limit, likely) {
@@ -121,15 +124,20 @@ fn save_file<R: Files>(files: &R, alloc: Global, name: &str, bytes: &[u8]) -> Re
     let Ok(beside) = name_beside(alloc, name) else {
         return Err(ShelfFault::Memory);
     };
-    let Ok(mut file) = File::create_new(files, beside.as_str()) else {
-        return Err(ShelfFault::Failed);
+    let mut file = match File::create_new(files, beside.as_str()) {
+        Ok(file) => file,
+        Err(error) => return Err(ShelfFault::Failed(Reason::of(&error))),
     };
-    let written = write_whole(&mut file, bytes).is_ok() && file.sync_all().is_ok();
-    if written && fs::rename(files, beside.as_str(), name).is_ok() {
-        return Ok(());
-    }
+    let reason = if write_whole(&mut file, bytes).is_ok() && file.sync_all().is_ok() {
+        match fs::rename(files, beside.as_str(), name) {
+            Ok(()) => return Ok(()),
+            Err(error) => Reason::of(&error),
+        }
+    } else {
+        Reason::Other
+    };
     let _ = fs::remove_file(files, beside.as_str());
-    Err(ShelfFault::Failed)
+    Err(ShelfFault::Failed(reason))
 }
 
 /// The name of the file that is written before it takes the place of another.

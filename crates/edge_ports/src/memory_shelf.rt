@@ -1,10 +1,11 @@
-ghost use Rattle.std.specs.Prelude.{◌≡◌, ◌↔◌, ◌<◌, ◌≤◌, ◌⊎◌, ◌∷◌, [], ℕ, All, length, false, IfOk, IsOkUnless, OnErr, OnOk, option_map, option_copied};
+ghost use Rattle.std.specs.Prelude.{◌≡◌, ◌↔◌, ◌<◌, ◌≤◌, ◌⊎◌, ◌∷◌, [], ℕ, All, length, false, IfOk, IsOkUnless, IsTrue, OnErr, OnOk, option_map, option_copied};
 ghost use Rattle.edge_ports.specs.End.{raised_if};
 ghost use Rattle.edge_ports.specs.InMemory.{counted, no_calls, numbered, IsNextFailing};
 ghost use Rattle.edge_ports.specs.Shelves.{first_named, is_failed, is_long, shelf_of, Loads, Saves};
 
 use crate::calls::Calls;
 use crate::octets::octets;
+use crate::reason::Reason;
 use crate::shelf::{Shelf, ShelfFault};
 use crate::shelf_file::ShelfFile;
 use crate::shelf_log::{ShelfCall, ShelfLog};
@@ -40,11 +41,18 @@ impl Model for MemoryShelf {
 impl Shelf for MemoryShelf {
     ghost seen = { shelf_of };
 
-    /// Fails exactly where its number is among those that are to fail, or no file has the name.
+    /// Fails exactly where its number is among those that are to fail, for another reason, or no
+    /// file has the name, which is the reason then.
     fn load(&mut self, alloc: Global, name: &str, limit: u64) -> Result<Bytes, ShelfFault>
         ensures loads { Loads (shelf_of self.old) (shelf_of self.new) name.now limit result }
-        ensures refuses { (result ≡ Err ShelfFault.Failed)
+        ensures refuses { IsTrue (is_failed result)
             ↔ (IsNextFailing self.old.calls ⊎ (first_named self.old.files name.now ≡ None)) }
+        ensures absent { result ≡ Err (ShelfFault.Failed Reason.NotFound)
+            → first_named self.old.files name.now ≡ None }
+        ensures failing { result ≡ Err (ShelfFault.Failed Reason.Other)
+            → IsNextFailing self.old.calls }
+        ensures reason { (reason : Reason) → result ≡ Err (ShelfFault.Failed reason)
+            → (reason ≡ Reason.NotFound) ⊎ (reason ≡ Reason.Other) }
         ensures counts { self.new.calls ≡ counted (is_failed result) self.old.calls }
         ensures longs { self.new.longs ≡ raised_if (is_long result) self.old.longs }
         ensures saves { self.new.save_faults ≡ self.old.save_faults }
@@ -59,13 +67,15 @@ impl Shelf for MemoryShelf {
     }
 
     /// Puts the file before the others. Fails exactly where its number is among those that are to
-    /// fail.
+    /// fail, for another reason.
     fn save(&mut self, alloc: Global, name: &str, bytes: &Bytes) -> Result<(), ShelfFault>
         ensures saves { Saves (shelf_of self.old) (shelf_of self.new) name.now bytes.now result }
         ensures ok { OnOk result (self.new.files
             ≡ (record { name = name.now; bytes = bytes.now }) ∷ self.old.files) }
         ensures err { OnErr result (self.new.files ≡ self.old.files) }
-        ensures refuses { (result ≡ Err ShelfFault.Failed) ↔ IsNextFailing self.old.calls }
+        ensures refuses { IsTrue (is_failed result) ↔ IsNextFailing self.old.calls }
+        ensures reason { (reason : Reason) → result ≡ Err (ShelfFault.Failed reason)
+            → reason ≡ Reason.Other }
         ensures counts { self.new.save_faults ≡ raised_if (is_failed result) self.old.save_faults }
         ensures calls { self.new.calls ≡ numbered self.old.calls }
         ensures longs { self.new.longs ≡ self.old.longs }
@@ -106,8 +116,14 @@ impl MemoryShelf {
         ensures below { IfOk result (λ bytes. All (λ b. b < 256) bytes) }
         ensures long { (size : ℕ) → result ≡ Err (ShelfFault.TooLong size) → (limit < size)
             × (option_map length (first_named self.old.files name.now) ≡ Some size) }
-        ensures refuses { (result ≡ Err ShelfFault.Failed)
+        ensures refuses { IsTrue (is_failed result)
             ↔ (IsNextFailing self.old.calls ⊎ (first_named self.old.files name.now ≡ None)) }
+        ensures absent { result ≡ Err (ShelfFault.Failed Reason.NotFound)
+            → first_named self.old.files name.now ≡ None }
+        ensures failing { result ≡ Err (ShelfFault.Failed Reason.Other)
+            → IsNextFailing self.old.calls }
+        ensures reason { (reason : Reason) → result ≡ Err (ShelfFault.Failed reason)
+            → (reason ≡ Reason.NotFound) ⊎ (reason ≡ Reason.Other) }
         ensures counts { self.new ≡ (record self.old {
           calls = counted (is_failed result) self.old.calls;
           longs = raised_if (is_long result) self.old.longs;
@@ -116,11 +132,11 @@ impl MemoryShelf {
         ensures longs_later { self.old.longs ≤ self.new.longs }
     {
         if self.calls.begin().is_err() {
-            return Err(ShelfFault::Failed);
+            return Err(ShelfFault::Failed(Reason::Other));
         }
         let Some(bytes) = find(&self.files, name) else {
             self.calls.fail();
-            return Err(ShelfFault::Failed);
+            return Err(ShelfFault::Failed(Reason::NotFound));
         };
         let length = bytes.items().len() as u64;
         if length > limit {
@@ -134,7 +150,9 @@ impl MemoryShelf {
         ensures ok { OnOk result (self.new.files
             ≡ (record { name = name.now; bytes = bytes.now }) ∷ self.old.files) }
         ensures err { OnErr result (self.new.files ≡ self.old.files) }
-        ensures refuses { (result ≡ Err ShelfFault.Failed) ↔ IsNextFailing self.old.calls }
+        ensures refuses { IsTrue (is_failed result) ↔ IsNextFailing self.old.calls }
+        ensures reason { (reason : Reason) → result ≡ Err (ShelfFault.Failed reason)
+            → reason ≡ Reason.Other }
         ensures short { is_long result ≡ false }
         ensures counts { self.new ≡ (record self.old {
           files = self.new.files;
@@ -145,7 +163,7 @@ impl MemoryShelf {
     {
         if self.calls.number() {
             self.save_faults = self.save_faults.saturating_add(1);
-            return Err(ShelfFault::Failed);
+            return Err(ShelfFault::Failed(Reason::Other));
         }
         match put_first(&mut self.files, alloc, name, bytes) {
             Ok(()) => Ok(()),

@@ -2,6 +2,7 @@ ghost use Rattle.std.specs.Prelude.{◌≡◌, ◌<◌, ◌≤◌, ℕ, All, len
 ghost use Rattle.std.specs.Io.KnownBytes.{Consumes, IsAtEnd};
 
 use crate::octets::octets;
+use crate::reason::Reason;
 use crate::shelf::ShelfFault;
 use guest_words::Bytes;
 use std::alloc::Global;
@@ -11,7 +12,8 @@ use std::io::Read;
 const CHUNK: usize = 16_384;
 
 /// Reads all that the reader has left, at most `limit` bytes. It is likely to have so many, for
-/// which room is made at once. An error of the reader is `Failed`; the length of `TooLong` is that
+/// which room is made at once. An error of the reader is `Failed` with
+/// its reason; the length of `TooLong` is that
 /// of what was read.
 pub(crate) fn read_up_to<I: Read>(
     alloc: Global,
@@ -32,8 +34,9 @@ pub(crate) fn read_up_to<I: Read>(
     };
     let mut chunk = [0u8; CHUNK];
     for _ in 0..u64::MAX {
-        let Ok(count) = reader.read(&mut chunk) else {
-            return Err(ShelfFault::Failed);
+        let count = match reader.read(&mut chunk) {
+            Ok(count) => count,
+            Err(error) => return Err(ShelfFault::Failed(Reason::of(&error))),
         };
         if count == 0 {
             return Ok(octets(bytes));
@@ -46,5 +49,5 @@ pub(crate) fn read_up_to<I: Read>(
             return Err(ShelfFault::Memory);
         }
     }
-    Err(ShelfFault::Failed)
+    Err(ShelfFault::Failed(Reason::Other))
 }

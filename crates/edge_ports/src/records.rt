@@ -27,6 +27,8 @@ pub fn read_record(fd: u64, taken: Result<usize, Failed>, mut places: Vec<u8>) -
             EIO
         }
     };
+    // What was asked for and didn't come is room that a history would keep for nothing.
+    places.shrink_to_fit();
     Record {
         port: fd,
         way: Way::Read,
@@ -50,6 +52,7 @@ pub fn write_record(fd: u64, put: Result<(), Failed>, bytes: Bytes) -> Record
         Ok(()) => asked as i64,
         Err(Failed) => {
             items.clear();
+            items.shrink_to_fit();
             EIO
         }
     };

@@ -1,14 +1,15 @@
 ghost use Rattle.edge_ports.specs.Shelves.{Loads, Saves, Shelved};
 
+use crate::reason::Reason;
 use guest_words::Bytes;
 use std::alloc::Global;
 
 /// Why a file wasn't loaded or saved.
 #[derive(Clone, Copy, Debug, PartialEq, Eq)]
 pub enum ShelfFault {
-    /// It couldn't be read, isn't there, or couldn't be written. The shelf's count for its name
-    /// rose: that of loads, or that of saves.
-    Failed,
+    /// It couldn't be read, isn't there, or couldn't be written, for this reason. The shelf's count
+    /// for its name rose: that of loads, or that of saves.
+    Failed(Reason),
     /// It has more bytes than the limit. The shelf's count of long answers for its name and the
     /// limit rose. `length` is over the limit; where the shelf tells, it is the file's.
     TooLong { length: u64 },

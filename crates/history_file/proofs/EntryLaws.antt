@@ -19,7 +19,7 @@ use Rattle.history_file.proofs.Inside.{opened, rescued-is}
 
 -- ---- by lists
 
-row_length-is : (n : _) (row : Row_of-Entry n) → row_length row ≡ length (items-the_row-Entry n row)
+pub row_length-is : (n : _) (row : Row_of-Entry n) → row_length row ≡ length (items-the_row-Entry n row)
 row_length-is n end_of-Entry = refl
 row_length-is n (more_of-Entry e rest) = ap suc (row_length-is _ rest)
 
@@ -293,7 +293,7 @@ all_again room (e ∷ es) rest s i =
 
 -- ---- of a rescued call, by the list of its inside
 
-row-shallow : (room n : _) (row : Row_of-Entry n) → IsShallowRow room row → AreShallow room (items-the_row-Entry n row)
+pub row-shallow : (room n : _) (row : Row_of-Entry n) → IsShallowRow room row → AreShallow room (items-the_row-Entry n row)
 unfolding IsShallow
 row-shallow room n end_of-Entry h = tt
 row-shallow room n (more_of-Entry e rest) h = (h.0, row-shallow room _ rest h.1)

@@ -8,3 +8,4 @@ pub mod EntryLaws
 pub mod FileLaws
 pub mod Lengths
 pub mod PlaceLaws
+pub mod ShallowLaws

@@ -10,6 +10,7 @@ mod plain_entries;
 mod put;
 mod reading;
 mod refused;
+mod shallow;
 mod size;
 mod spelling;
 #[cfg(test)]
@@ -19,4 +20,5 @@ mod values;
 pub use file_fault::{FileFault, FileKind};
 pub use head::Head;
 pub use reading::{one_history, read, read_front};
+pub use shallow::can_spell;
 pub use spelling::spell;

@@ -4,4 +4,5 @@ pub mod Parsed
 pub mod PortWords
 pub mod Rules
 pub mod Taking
+pub mod Texts
 pub mod Worked

@@ -1,5 +1,5 @@
 -- What a parse that succeeds gives: required texts, and numbers in their ranges.
-use Rattle.std.proofs.Common.{◌≡◌, ◌∙◌, ◌<◌, ◌≤◌, ◌&&◌, ℕ, Bool, true, not, List, [], ◌∷◌, length, map, is_some, Option, Some, None, ap, sym, subst, refl, inl, inr, arith, codes}
+use Rattle.std.proofs.Common.{◌≡◌, ◌∙◌, ◌<◌, ◌≤◌, ◌&&◌, ℕ, ℤ, negsuc, Bool, true, not, List, [], ◌∷◌, length, map, is_some, Option, Some, None, ap, sym, subst, refl, inl, inr, arith, codes}
 use Rattle.std.specs.List.{All, slice_index_or}
 use Rattle.std.specs.Prelude.{IfSome, option_map, slice_get}
 use Rattle.std.specs.Str.{bytes_eq}
@@ -18,13 +18,13 @@ use Rattle.clap.specs.declared.builder.command.Command.{Command}
 use Rattle.clap.specs.declared.builder.value_parser.Reading.{Reading}
 use Rattle.clap.specs.declared.builder.value_parser.Reading.TheVariants.{AsWritten}
 use Rattle.clap.specs.declared.builder.value_parser.ValueParser.{ValueParser}
-use Rattle.clap.specs.declared.builder.value_parser.ValueParser.TheVariants.{Unsigned}
+use Rattle.clap.specs.declared.builder.value_parser.ValueParser.TheVariants.{Signed, Unsigned}
 use Rattle.clap.specs.declared.parser.matches.ArgMatches.{ArgMatches}
 use Rattle.clap.specs.declared.parser.matches.MatchedArg.{MatchedArg}
 use Rattle.clap.proofs.CallerLemmas.{entry_by_id, required_has_value, same_rules_by_id}
 use Rattle.clap.proofs.WalkLemmas.{first_value-rows, one_text-rows}
 use Rattle.std.proofs.lemmas.List.{length-map}
-use Rattle.program_words.specs.Fits.{HasNumberIn, HasText}
+use Rattle.program_words.specs.Fits.{HasNumberIn, HasText, IsSignedNumber}
 use Rattle.program_words.proofs.Rules.{IsTame, is_only, is_tame, none_of, only_at, rule_at, tame_of}
 
 -- an id of the caller's own
@@ -101,11 +101,16 @@ parser_is c m p k d r h q parser w key j x low at same =
     let rules = same_rules_by_id c m p k d h.below (unique c k d r h) (not_auto c k d r h) j x low at same_id in
     ap parser_of_value (rules.parser q (ap (λ (x : Rule). x.parser) h.rule ∙ parser))
 
+-- a parser whose values are read as they were written, and what they are then
+pub record ReadsAs (q : ValueParser) (P : Text → Type 0) : Type 0 where
+  pub as_written : reading_of q ≡ AsWritten
+  pub accepts : (ignore_case : Bool) (t : Text) → Accepts ignore_case q t → P t
+
 -- the values of the entry of an argument pass its parser, and are read as they were written
 entry_passes : (c : Command) (m : ArgMatches) (p : IsParsedFrom c m) → IsTame c → (k : ℕ) (d : Arg) (r : Rule) → IsArgAt c k d r
-    → (low high : ℕ) → r.parser ≡ Some (Unsigned low high) → (e : Entry) → e.0.now ≡ r.id → EntryPasses p.built e
-    → (e.1.reading ≡ AsWritten) × All (λ v. IsUnsignedIn low high v.now) e.1.vals.items
-entry_passes c m p tame k d r h low high parser e key passes =
+    → (q : ValueParser) (P : Text → Type 0) → ReadsAs q P → r.parser ≡ Some q → (e : Entry) → e.0.now ≡ r.id → EntryPasses p.built e
+    → (e.1.reading ≡ AsWritten) × All (λ v. P v.now) e.1.vals.items
+entry_passes c m p tame k d r h q P reads parser e key passes =
     let groups : groups_of p.built ≡ [] = (p.from.plain tame.plain).1 in
     let no_group : e.1.is_group ≡ true → ⊥ = λ g. elim (passes.3 g) [
       | inl empty ↦ (own_id r.id h.own).0 (sym key ∙ empty)
@@ -115,22 +120,23 @@ entry_passes c m p tame k d r h low high parser e key passes =
     ] in
     let reading : e.1.reading ≡ AsWritten = elim passes.4 [
       | inl g ↦ absurd (no_group g)
-      | inr any ↦ sym any.4.1 ∙ ap reading_of (parser_is c m p k d r h (Unsigned low high) parser e.0.now key any.0 any.1 any.2 any.3 any.4.0)
+      | inr any ↦ sym any.4.1 ∙ (ap reading_of (parser_is c m p k d r h q parser e.0.now key any.0 any.1 any.2 any.3 any.4.0) ∙ reads.as_written)
     ] in
-    let values : All (λ v. IsUnsignedIn low high v.now) e.1.vals.items = elim passes.0 [
+    let values : All (λ v. P v.now) e.1.vals.items = elim passes.0 [
       | inl g ↦ absurd (no_group g)
       | inr all ↦ λ i v lt.
           let any = all i v lt in
-          let is = parser_is c m p k d r h (Unsigned low high) parser e.0.now key any.0 any.1 any.2 any.3 any.4.0 in
-          subst (λ q. Accepts any.1.ignore_case q (slice_index_or e.1.vals.items i v).now) is any.4.1
+          let is = parser_is c m p k d r h q parser e.0.now key any.0 any.1 any.2 any.3 any.4.0 in
+          reads.accepts any.1.ignore_case (slice_index_or e.1.vals.items i v).now
+          (subst (λ (x : ValueParser). Accepts any.1.ignore_case x (slice_index_or e.1.vals.items i v).now) is any.4.1)
     ] in
     (reading, values)
 
 accepted_at : (c : Command) (m : ArgMatches) (p : IsParsedFrom c m) → IsTame c → (k : ℕ) (d : Arg) (r : Rule) → IsArgAt c k d r
-    → (low high : ℕ) → r.parser ≡ Some (Unsigned low high) → (t : Text) → one_text (found_of m) r.id ≡ Some t → IsUnsignedIn low high t
-accepted_at c m p tame k d r h low high parser t is = go (matched_of (found_of m) r.id) refl
+    → (q : ValueParser) (P : Text → Type 0) → ReadsAs q P → r.parser ≡ Some q → (t : Text) → one_text (found_of m) r.id ≡ Some t → P t
+accepted_at c m p tame k d r h q P reads parser t is = go (matched_of (found_of m) r.id) refl
   where
-    go : (o : Option MatchedArg) → matched_of (found_of m) r.id ≡ o → IsUnsignedIn low high t
+    go : (o : Option MatchedArg) → matched_of (found_of m) r.id ≡ o → P t
     go None e =
         let none : one_text (found_of m) r.id ≡ None = rw e refl in
         cc
@@ -138,20 +144,28 @@ accepted_at c m p tame k d r h low high parser t is = go (matched_of (found_of m
         let parsed = p.parsed (p.from.globals ∙ tame.globals) in
         let got = entry_by_id (EntryPasses p.built) (found_of m).entries.items r.id x parsed.values e in
         let key : got.0.0.now ≡ r.id = (bytes_eq-Decides got.0.0.now r.id).0 got.2 in
-        let passes = subst (λ (y : MatchedArg). (y.reading ≡ AsWritten) × All (λ v. IsUnsignedIn low high v.now) y.vals.items) got.1
-        (entry_passes c m p tame k d r h low high parser got.0 key got.3) in
+        let passes = subst (λ (y : MatchedArg). (y.reading ≡ AsWritten) × All (λ v. P v.now) y.vals.items) got.1
+        (entry_passes c m p tame k d r h q P reads parser got.0 key got.3) in
         let read : option_map (λ s. read_as x.reading s.now) (slice_get x.vals.items 0) ≡ Some t = rw e at is in
-        first_read x.vals.items x.reading t passes.0 read (IsUnsignedIn low high) passes.1
+        first_read x.vals.items x.reading t passes.0 read P passes.1
 
 -- a number that is given is in its range
 pub accepted : (c : Command) (m : ArgMatches) (p : IsParsedFrom c m) → IsTame c → (k : ℕ) (d : Arg) (r : Rule) → IsArgAt c k d r
-    → (low high : ℕ) → r.parser ≡ Some (Unsigned low high) → IfSome (one_of r.id (rows_of (found_of m))) (IsUnsignedIn low high)
-accepted c m p tame k d r h low high parser =
-    subst (λ o. IfSome o (IsUnsignedIn low high)) (one_text-rows (found_of m) r.id) (go (one_text (found_of m) r.id) refl)
+    → (q : ValueParser) (P : Text → Type 0) → ReadsAs q P → r.parser ≡ Some q → IfSome (one_of r.id (rows_of (found_of m))) P
+accepted c m p tame k d r h q P reads parser =
+    subst (λ o. IfSome o P) (one_text-rows (found_of m) r.id) (go (one_text (found_of m) r.id) refl)
   where
-    go : (o : Option Text) → one_text (found_of m) r.id ≡ o → IfSome o (IsUnsignedIn low high)
+    go : (o : Option Text) → one_text (found_of m) r.id ≡ o → IfSome o P
     go None e = tt
-    go (Some t) e = accepted_at c m p tame k d r h low high parser t e
+    go (Some t) e = accepted_at c m p tame k d r h q P reads parser t e
+
+-- numbers of `u64` in a range
+unsigned : (low high : ℕ) → ReadsAs (Unsigned low high) (IsUnsignedIn low high)
+unsigned low high = record { as_written = refl; accepts = λ i t a. a }
+
+-- numbers of `i64`
+signed : (low : ℕ) (high : ℤ) → ReadsAs (Signed (negsuc low) high) IsSignedNumber
+signed low high = record { as_written = refl; accepts = λ i t a. (a.0, a.1) }
 
 -- ---- from the rules of a command
 
@@ -190,4 +204,10 @@ module _ (c : Command) (m : ArgMatches) (p : IsParsedFrom c m) (s : Shape) (shap
       → (low high : ℕ) → r.parser ≡ Some (Unsigned low high) → HasNumberIn r.id low high (rows_of (found_of m))
   has_number k r lt here alone low high parser =
       let d = some_arg (args_of c) k (below k lt) in
-      accepted c m p calm k d r (at k d r lt here alone) low high parser
+      accepted c m p calm k d r (at k d r lt here alone) (Unsigned low high) (IsUnsignedIn low high) (unsigned low high) parser
+
+  pub has_signed : (k : ℕ) (r : Rule) → k < length s.rules → slice_index_or s.rules k r ≡ r → (is_only k r.id s.rules && is_own r.id) ≡ true
+      → (low : ℕ) (high : ℤ) → r.parser ≡ Some (Signed (negsuc low) high) → IfSome (one_of r.id (rows_of (found_of m))) IsSignedNumber
+  has_signed k r lt here alone low high parser =
+      let d = some_arg (args_of c) k (below k lt) in
+      accepted c m p calm k d r (at k d r lt here alone) (Signed (negsuc low) high) IsSignedNumber (signed low high) parser

@@ -8,7 +8,7 @@ use Rattle.clap.specs.declared.error.Error.{Error}
 use Rattle.clap.specs.declared.error.kind.ErrorKind.{ErrorKind}
 use Rattle.clap.specs.declared.parser.matches.ArgMatches.{ArgMatches}
 use Rattle.program_words.specs.declared.command_kind.CommandKind.{CommandKind}
-use Rattle.program_words.specs.declared.command_kind.CommandKind.TheVariants.{Run, Alone, List as Listing, Load}
+use Rattle.program_words.specs.declared.command_kind.CommandKind.TheVariants.{Run, Alone, List as Listing, Load, Audit, Try, Help, Version}
 use Rattle.program_words.specs.declared.word_fault.WordFault.{WordFault}
 use Rattle.program_words.specs.declared.words_fault.WordsFault.TheVariants.{Memory, Words}
 use Rattle.program_words.specs.Refusal.{refusal_of}
@@ -20,12 +20,20 @@ simple Run = refl
 simple Alone = refl
 simple Listing = refl
 simple Load = refl
+simple Audit = refl
+simple Try = refl
+simple Help = refl
+simple Version = refl
 
 free : (kind : CommandKind) → is_simple_and_free (app_named kind) ≡ true
 free Run = refl
 free Alone = refl
 free Listing = refl
 free Load = refl
+free Audit = refl
+free Try = refl
+free Help = refl
+free Version = refl
 
 -- a parse that succeeds takes the words
 pub taken : (kind : CommandKind) (a : App) (words : List Text) → a ≡ app_named kind → (is_simple_and_free a ≡ true → fault_of a words ≡ []) → is_taken kind words ≡ true

@@ -16,11 +16,11 @@ alone : first_word_fault (codes "alone" ∷ []) ≡ Some Line
 unfolding clap_on_literals is_taken rows_in
 alone = refl
 
-seed : command_of (codes "alone" ∷ codes "--seed" ∷ codes "7" ∷ codes "p" ∷ []) ≡ Ok (Alone None 8 5000000 7 (codes "p") 0)
+seed : command_of (codes "alone" ∷ codes "--seed" ∷ codes "7" ∷ codes "p" ∷ []) ≡ Ok (Alone None 8 5000000 7 None (codes "p") 0)
 unfolding clap_on_literals is_taken rows_in
 seed = refl
 
-seed_attached : command_of (codes "alone" ∷ codes "--seed=7" ∷ codes "p" ∷ []) ≡ Ok (Alone None 8 5000000 7 (codes "p") 0)
+seed_attached : command_of (codes "alone" ∷ codes "--seed=7" ∷ codes "p" ∷ []) ≡ Ok (Alone None 8 5000000 7 None (codes "p") 0)
 unfolding clap_on_literals is_taken rows_in
 seed_attached = refl
 

@@ -1,4 +1,5 @@
 pub mod Fits
+pub mod Help
 pub mod Kinds
 pub mod Ports
 pub mod Ranges

@@ -1,5 +1,5 @@
 ghost use Rattle.std.specs.Prelude.{◌≡◌};
-ghost use Rattle.program_words.specs.Kinds.{kind_named};
+ghost use Rattle.program_words.specs.Kinds.{kind_named, tells_out};
 
 /// The commands by their first word.
 #[derive(Clone, Copy, PartialEq, Eq)]
@@ -8,6 +8,10 @@ pub enum CommandKind {
     Alone,
     List,
     Load,
+    Audit,
+    Try,
+    Help,
+    Version,
 }
 
 impl CommandKind {
@@ -20,7 +24,18 @@ impl CommandKind {
             "alone" => Some(CommandKind::Alone),
             "list" => Some(CommandKind::List),
             "load" => Some(CommandKind::Load),
+            "audit" => Some(CommandKind::Audit),
+            "try" => Some(CommandKind::Try),
+            "--help" | "-h" | "help" => Some(CommandKind::Help),
+            "--version" => Some(CommandKind::Version),
             _ => None,
         }
+    }
+
+    /// Whether what the command tells is its own output.
+    pub fn tells_out(self) -> bool
+        ensures value { result ≡ tells_out self }
+    {
+        !matches!(self, CommandKind::Run | CommandKind::Alone)
     }
 }

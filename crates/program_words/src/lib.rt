@@ -3,6 +3,8 @@
 
 mod command;
 mod command_kind;
+mod from_matches;
+mod help;
 pub mod limits;
 mod parse;
 mod port_name;
@@ -11,12 +13,16 @@ mod reader;
 mod table;
 #[cfg(test)]
 mod tests;
+mod usage;
 mod values;
 mod word_fault;
 mod words_fault;
 
 pub use command::Command;
+pub use command_kind::CommandKind;
+pub use help::{help_text, version_text};
 pub use port_name::{PortName, PortNames};
-pub use reader::{needs_threads, port_names, read_words, report_to_out};
+pub use port_word::is_port;
+pub use reader::{needs_threads, port_names, read_words, report_file, report_to_out};
 pub use word_fault::WordFault;
 pub use words_fault::WordsFault;

@@ -23,7 +23,7 @@ fn colons(word: &str) -> usize
 }
 
 /// Whether the word has just one colon, with a byte at least on each side.
-fn is_port(word: &str) -> bool
+pub fn is_port(word: &str) -> bool
     ensures value { result ≡ is_port word.now }
 {
     let (input, output) = ends(word);

@@ -1,6 +1,6 @@
 ghost use Rattle.std.specs.Prelude.{◌≡◌, [], IfOk, false, fold};
 ghost use Rattle.clap.specs.Words.{app_of, rule_of, with_rule};
-ghost use Rattle.program_words.specs.Table.{app_named, number_rule, run_options, program_and_ports, option_rule, ports_rule, required_rule, simple_app};
+ghost use Rattle.program_words.specs.Table.{app_named, audit_files, limit_options, number_rule, option_rule, outputs, program_and_input, program_and_ports, required_rule, result_options, returns_rule, run_options, simple_app, trial_options, words_rule};
 
 use crate::command_kind::CommandKind;
 use crate::limits::LOADS;
@@ -34,11 +34,19 @@ fn required<'a>(alloc: Global, name: &'a str) -> Arg<'a>
 }
 
 /// Any number of further positionals.
-fn ports<'a>(alloc: Global) -> Arg<'a>
-    ensures rule { rule_of result ≡ ports_rule }
+fn words<'a>(alloc: Global, name: &'a str) -> Arg<'a>
+    ensures rule { rule_of result ≡ words_rule name.entry.now }
     ensures local { result.global ≡ false }
 {
-    Arg::new(alloc, "ports").num_args(0..)
+    Arg::new(alloc, name).num_args(0..)
+}
+
+/// `--returns N`.
+fn returns<'a>(alloc: Global) -> Arg<'a>
+    ensures rule { rule_of result ≡ returns_rule }
+    ensures local { result.global ≡ false }
+{
+    option(alloc, "returns").value_parser(ValueParser::signed(i64::MIN, i64::MAX))
 }
 
 /// A command without help and version flags, whose words don't include its name.
@@ -51,14 +59,32 @@ fn bare<'a>(alloc: Global, name: &'a str) -> Command<'a>
         .disable_version_flag(true)
 }
 
+/// The command with the harts and the budget of a run.
+fn with_limits<'a>(alloc: Global, command: Command<'a>) -> Result<Command<'a>, AllocError>
+    ensures app { IfOk result (λ c. app_of c ≡ fold with_rule (app_of command.entry) limit_options) }
+{
+    command
+        .arg(number(alloc, "harts", 1, u64::from(HARTS)))?
+        .arg(number(alloc, "budget", 1, BUDGET))
+}
+
+/// The command with the options that say where a run's texts go.
+fn with_result_options<'a>(alloc: Global, command: Command<'a>) -> Result<Command<'a>, AllocError>
+    ensures app { IfOk result (λ c.
+        app_of c ≡ fold with_rule (app_of command.entry) result_options) }
+{
+    command
+        .arg(option(alloc, "save"))?
+        .arg(option(alloc, "report"))
+}
+
 /// The command with the options of a run.
 fn with_run_options<'a>(alloc: Global, command: Command<'a>) -> Result<Command<'a>, AllocError>
     ensures app { IfOk result (λ c. app_of c ≡ fold with_rule (app_of command.entry) run_options) }
 {
-    command
-        .arg(option(alloc, "points"))?
-        .arg(number(alloc, "harts", 1, u64::from(HARTS)))?
-        .arg(number(alloc, "budget", 1, BUDGET))
+    let command = command.arg(option(alloc, "points"))?;
+    let command = with_limits(alloc, command)?;
+    with_result_options(alloc, command)
 }
 
 /// The command with a program and its ports.
@@ -66,7 +92,49 @@ fn with_program<'a>(alloc: Global, command: Command<'a>) -> Result<Command<'a>, 
     ensures app { IfOk result (λ c.
         app_of c ≡ fold with_rule (app_of command.entry) program_and_ports) }
 {
-    command.arg(required(alloc, "program"))?.arg(ports(alloc))
+    command
+        .arg(required(alloc, "program"))?
+        .arg(words(alloc, "ports"))
+}
+
+/// The command with the options of a trial.
+fn with_trial_options<'a>(alloc: Global, command: Command<'a>) -> Result<Command<'a>, AllocError>
+    ensures app { IfOk result (λ c. app_of c ≡ fold with_rule (app_of command.entry) trial_options) }
+{
+    with_limits(alloc, command)?
+        .arg(number(alloc, "seed", 0, u64::MAX))?
+        .arg(returns(alloc))
+}
+
+/// The command with a program and what it reads.
+fn with_program_and_input<'a>(
+    alloc: Global,
+    command: Command<'a>,
+) -> Result<Command<'a>, AllocError>
+    ensures app { IfOk result (λ c.
+        app_of c ≡ fold with_rule (app_of command.entry) program_and_input) }
+{
+    command
+        .arg(required(alloc, "program"))?
+        .arg(required(alloc, "input"))
+}
+
+/// The command with what a program wrote.
+fn with_outputs<'a>(alloc: Global, command: Command<'a>) -> Result<Command<'a>, AllocError>
+    ensures app { IfOk result (λ c. app_of c ≡ fold with_rule (app_of command.entry) outputs) }
+{
+    command
+        .arg(required(alloc, "out"))?
+        .arg(required(alloc, "err"))
+}
+
+/// The command with the files of an audit.
+fn with_audit_files<'a>(alloc: Global, command: Command<'a>) -> Result<Command<'a>, AllocError>
+    ensures app { IfOk result (λ c. app_of c ≡ fold with_rule (app_of command.entry) audit_files) }
+{
+    let command = command.arg(required(alloc, "history"))?;
+    let command = with_program_and_input(alloc, command)?;
+    with_outputs(alloc, command)?.arg(words(alloc, "ports"))
 }
 
 /// What the command takes behind its name.
@@ -88,5 +156,17 @@ pub fn simple_command<'a>(alloc: Global, kind: CommandKind) -> Result<Command<'a
             let number = required(alloc, "number").value_parser(ValueParser::unsigned(1, LOADS));
             bare(alloc, "load").arg(number)
         }
+        CommandKind::Audit => {
+            let command = bare(alloc, "audit").arg(option(alloc, "points"))?;
+            let command = command.arg(option(alloc, "report"))?;
+            with_audit_files(alloc, command)
+        }
+        CommandKind::Try => {
+            let command = with_trial_options(alloc, bare(alloc, "try"))?;
+            let command = command.arg(option(alloc, "report"))?;
+            with_program_and_input(alloc, command)
+        }
+        CommandKind::Help => bare(alloc, "help").arg(words(alloc, "words")),
+        CommandKind::Version => bare(alloc, "version").arg(words(alloc, "words")),
     }
 }

@@ -1,4 +1,7 @@
-use crate::{Command, WordFault, WordsFault, needs_threads, port_names, read_words, report_to_out};
+use crate::{
+    Command, WordFault, WordsFault, help_text, needs_threads, port_names, read_words, report_file,
+    report_to_out, version_text,
+};
 use std::alloc::{AllocError, Global};
 use std::test::Fail;
 
@@ -66,8 +69,13 @@ fn edges_of_lines(rt: HostRuntime) -> Result<(), Fail> {
         alone(alloc, "alone p a:b --harts +7 c:d --budget=007")?,
         Some((7, 7, 0, 2))
     );
-    assert_eq!(rt; fault(alloc, "--help")?, Some(WordFault::UnknownCommand));
     assert_eq!(rt; fault(alloc, "run --help")?, Some(WordFault::Line));
+    assert_eq!(rt; fault(alloc, "help --run")?, Some(WordFault::Line));
+    assert_eq!(rt;
+        fault(alloc, "try --returns -2 p i")?,
+        Some(WordFault::Line)
+    );
+    assert_eq!(rt; fault(alloc, "list --report f p")?, Some(WordFault::Line));
     assert_eq!(rt;
         fault(alloc, "alone --seed 7 --points")?,
         Some(WordFault::Line)
@@ -84,13 +92,15 @@ fn edges_of_lines(rt: HostRuntime) -> Result<(), Fail> {
 #[test]
 fn other_commands(rt: HostRuntime) -> Result<(), Fail> {
     let alloc = rt.alloc();
-    let run = words(alloc, "run --points f p a:b")?;
+    let run = words(alloc, "run --points f --save h p a:b")?;
     let command = read_words(alloc, run.as_slice())?;
-    let Command::Run { points, .. } = command else {
+    let Command::Run { points, save, .. } = command else {
         return Err(Fail::from("a run"));
     };
     let points = points.ok_or("points")?;
     assert!(rt; points.items() == "f");
+    let save = save.ok_or("save")?;
+    assert!(rt; save.items() == "h");
     assert!(rt; needs_threads(run.as_slice()));
     let load = words(alloc, "load 1000")?;
     assert!(rt; report_to_out(load.as_slice()));
@@ -100,6 +110,40 @@ fn other_commands(rt: HostRuntime) -> Result<(), Fail> {
             Command::Load { number: 1_000 }
         )
     );
+    Ok(())
+}
+
+#[test]
+fn audit_and_try(rt: HostRuntime) -> Result<(), Fail> {
+    let alloc = rt.alloc();
+    let audit = words(alloc, "audit h p i o e a:b")?;
+    let command = read_words(alloc, audit.as_slice())?;
+    let Command::Audit { history, ports, .. } = command else {
+        return Err(Fail::from("an audit"));
+    };
+    assert!(rt; history.items() == "h");
+    let port = ports.items().first().ok_or("a port")?;
+    assert!(rt; port.output.items() == "b");
+    assert!(rt; port_names(alloc, audit.as_slice())?.items().is_empty());
+    assert_eq!(rt;
+        fault(alloc, "audit h p i o e a")?,
+        Some(WordFault::Port { index: 0 })
+    );
+    let command = read_words(alloc, words(alloc, "try --returns=-17 p i")?.as_slice())?;
+    assert!(rt; matches!(command, Command::Try { returns: -17, .. }));
+    Ok(())
+}
+
+#[test]
+fn texts_and_report(rt: HostRuntime) -> Result<(), Fail> {
+    let alloc = rt.alloc();
+    let command = read_words(alloc, words(alloc, "-h try")?.as_slice())?;
+    assert!(rt; matches!(command, Command::Help));
+    assert!(rt; help_text(alloc)?.items().starts_with(b"rescue runs one"));
+    assert!(rt; version_text().starts_with("rescue "));
+    let report = report_file(alloc, words(alloc, "try --report=r p i")?.as_slice())?;
+    assert!(rt; report.ok_or("a report")?.items() == "r");
+    assert!(rt; report_file(alloc, words(alloc, "list p")?.as_slice())?.is_none());
     Ok(())
 }
 

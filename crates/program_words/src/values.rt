@@ -1,8 +1,8 @@
-ghost use Rattle.std.specs.Prelude.{◌≡◌, IfOk, IfSome, length, map};
+ghost use Rattle.std.specs.Prelude.{◌≡◌, IfOk, IfSome, length};
 ghost use Rattle.clap.specs.Words.{first_of, found_of, one_of, rows_of};
-ghost use Rattle.program_words.specs.Fits.{HasText, IsNumber};
-ghost use Rattle.program_words.specs.Ports.{first_bad_port, port_named};
-ghost use Rattle.program_words.specs.Words.{number_in, port_words, text_in};
+ghost use Rattle.program_words.specs.Fits.{HasText, IsNumber, IsSignedNumber};
+ghost use Rattle.program_words.specs.Ports.{first_bad_port};
+ghost use Rattle.program_words.specs.Words.{number_in, port_words, ports_in, signed_in, text_in};
 
 use crate::port_name::PortNames;
 use crate::port_word::{first_bad_port, name, names_of};
@@ -40,6 +40,14 @@ pub fn number_of(matches: &ArgMatches<'_>, id: &str) -> Option<u64>
     matches.get_one::<u64>(id)
 }
 
+/// The number of an option that may be negative, where it is given.
+pub fn signed_of(matches: &ArgMatches<'_>, id: &str) -> Option<i64>
+    requires read { IfSome (one_of id.now (rows_of (found_of matches.now))) IsSignedNumber }
+    ensures value { result ≡ signed_in id.now (rows_of (found_of matches.now)) }
+{
+    matches.get_one::<i64>(id)
+}
+
 /// The number of the first port word that is none, counted from 0.
 pub fn bad_port(matches: &ArgMatches<'_>) -> Option<usize>
     ensures value { result ≡ first_bad_port (port_words (rows_of (found_of matches.now))) }
@@ -62,8 +70,7 @@ pub fn port_count(matches: &ArgMatches<'_>) -> u64
 
 /// The files of the ports that are named.
 pub fn ports_of(alloc: Global, matches: &ArgMatches<'_>) -> Result<PortNames, AllocError>
-    ensures ok { IfOk result (λ names.
-        names ≡ map port_named (port_words (rows_of (found_of matches.now)))) }
+    ensures ok { IfOk result (λ names. names ≡ ports_in (rows_of (found_of matches.now))) }
 {
     match matches.get_strs("ports") {
         Some(words) => names_of(alloc, words),

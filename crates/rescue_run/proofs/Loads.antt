@@ -12,7 +12,7 @@ use Rattle.guest_words.specs.declared.record.Record.{Record}
 use Rattle.run_history.specs.declared.entry.Entry.{Entry}
 use Rattle.run_history.specs.Counts.{records_of_all}
 use Rattle.rescue_run.specs.declared.outcome.Outcome.{Outcome}
-use Rattle.rescue_run.specs.declared.outcome.Outcome.TheVariants.{Words, PortCount, Shelf, TooLong, Elf, Symbols, Points, Report, Ended, Listed, Memory}
+use Rattle.rescue_run.specs.declared.outcome.Outcome.TheVariants.{Words, PortCount, Shelf, TooLong, Elf, Symbols, Points, Report, Save, Ended, Listed, Audited, AuditNo, Tried, NoFault, Shown, Memory}
 use Rattle.rescue_run.specs.declared.task.LoadTask.{LoadTask}
 use Rattle.rescue_run.specs.Load.{load_devices, load_summary, out_of, IsLoadTo, IsSure}
 use Rattle.rescue_run.specs.Puts.{PutsText, ReportsRun}
@@ -26,7 +26,7 @@ sure_as : (text : Ending → List ℕ) (entries : List Entry) (ending : Option E
     → PutsText text ending outcome old new → IsSure entries (outcome_of ending) → IsSure entries outcome
 sure_as text entries None (Words fault) old new puts sure = absurd puts
 sure_as text entries None (PortCount named handed) old new puts sure = absurd puts
-sure_as text entries None (Shelf w) old new puts sure = absurd puts
+sure_as text entries None (Shelf w reason) old new puts sure = absurd puts
 sure_as text entries None (TooLong w size) old new puts sure = absurd puts
 sure_as text entries None (Elf fault offset) old new puts sure = absurd puts
 sure_as text entries None (Symbols fault offset) old new puts sure = absurd puts
@@ -34,10 +34,16 @@ sure_as text entries None (Points fault place) old new puts sure = absurd puts
 sure_as text entries None (Report ending) old new puts sure = absurd puts
 sure_as text entries None (Ended x) old new puts sure = absurd puts
 sure_as text entries None Listed old new puts sure = absurd puts
+sure_as text entries None (Save z) old new puts sure = absurd puts
+sure_as text entries None Audited old new puts sure = absurd puts
+sure_as text entries None (AuditNo refusal) old new puts sure = absurd puts
+sure_as text entries None (Tried good) old new puts sure = absurd puts
+sure_as text entries None (NoFault z) old new puts sure = absurd puts
+sure_as text entries None Shown old new puts sure = absurd puts
 sure_as text entries ending Memory old new puts sure = tt
 sure_as text entries (Some y) (Words fault) old new puts sure = sure
 sure_as text entries (Some y) (PortCount named handed) old new puts sure = sure
-sure_as text entries (Some y) (Shelf w) old new puts sure = sure
+sure_as text entries (Some y) (Shelf w reason) old new puts sure = sure
 sure_as text entries (Some y) (TooLong w size) old new puts sure = sure
 sure_as text entries (Some y) (Elf fault offset) old new puts sure = sure
 sure_as text entries (Some y) (Symbols fault offset) old new puts sure = sure
@@ -45,6 +51,12 @@ sure_as text entries (Some y) (Points fault place) old new puts sure = sure
 sure_as text entries (Some y) (Report ending) old new puts sure = sure
 sure_as text entries (Some y) (Ended x) old new puts sure = sure
 sure_as text entries (Some y) Listed old new puts sure = sure
+sure_as text entries (Some y) (Save z) old new puts sure = sure
+sure_as text entries (Some y) Audited old new puts sure = sure
+sure_as text entries (Some y) (AuditNo refusal) old new puts sure = sure
+sure_as text entries (Some y) (Tried good) old new puts sure = sure
+sure_as text entries (Some y) (NoFault z) old new puts sure = sure
+sure_as text entries (Some y) Shown old new puts sure = sure
 
 pub load_told : (load : LoadTask) (entries : List Entry) (points : List Point) (ending : Option Ending) (outcome : Outcome) (old new : End)
     → IsLoadTo load entries points (outcome_of ending) → PutsText (load_summary load entries points) ending outcome old new

@@ -9,8 +9,9 @@ use Rattle.rescue_run.specs.declared.task.Task.{Task}
 use Rattle.rescue_run.specs.declared.outcome.Outcome.{Outcome}
 use Rattle.rescue_run.specs.Headline.{ComesTo, Headline, Told}
 use Rattle.rescue_run.specs.Prepares.{Prepares}
+use Rattle.rescue_run.specs.Reads.{Follows}
 use Rattle.rescue_run.specs.Statuses.{status_of}
-use Rattle.rescue_run.specs.Top.{handed}
+use Rattle.rescue_run.specs.Top.{handed, sides}
 use Rattle.rescue_run.proofs.Answering.{headline_of}
 
 handed_by : {S T P N : Type 0} (source : S → End) (sink : T → End) (port : P → End) (name : N → End) (input : S) (out err : T) (ports : List P) (names : List N)
@@ -25,11 +26,13 @@ handed_by source sink port name input out err ports names same = ap (λ (ends : 
 }) same
 
 pub headline_by : {S T P N : Type 0} (source : S → End) (sink : T → End) (port : P → End) (name : N → End) (input : S) (out err : T) (ports : List P) (names : List N)
-    (threads : Bool) (words : List (List ℕ)) (old new : Shelved) (before : Seen) (report report' : End) (count : ℕ)
+    (threads : Bool) (words : List (List ℕ)) (old between new : Shelved) (before : Seen) (report report' : End) (count : ℕ)
     (prepared : Result Task Outcome) (told : Told) → before ≡ handed source sink port input out err ports → map port ports ≡ map name names → count ≡ length names
-    → Prepares threads words count old new prepared → told.status ≡ status_of told.outcome → ComesTo prepared before report report' told
+    → Prepares threads words count old between prepared → Follows old between → told.status ≡ status_of told.outcome
+    → ComesTo prepared before (sides between new report report') told
     → Headline threads words old new (handed source sink name input out err names) report report' told
-headline_by source sink port name input out err ports names threads words old new before report report' count prepared told same ends counts prepares status comes =
+headline_by source sink port name input out err ports names threads words old between new before report report' count prepared told same ends counts prepares follows status comes =
     let whole : before ≡ handed source sink name input out err names = same ∙ handed_by source sink port name input out err ports names ends in
     let many : length before.ports ≡ length names = ap (λ (s : Seen). length s.ports) whole ∙ length-map names name in
-    headline_of threads words old new before (handed source sink name input out err names) report report' count prepared told whole (counts ∙ sym many) prepares status comes
+    headline_of threads words old between new before (handed source sink name input out err names) report report' count prepared told whole (counts ∙ sym many) prepares follows
+    status comes

@@ -12,13 +12,14 @@ use Rattle.elf_symbols.specs.declared.symbol.Symbol.{Symbol}
 use Rattle.guest_words.specs.declared.elf_fault.ElfFault.{ElfFault}
 use Rattle.guest_words.specs.Image.{first_fault}
 use Rattle.edge_ports.specs.Shelves.{Shelved}
-use Rattle.program_words.specs.Kinds.{kind_named}
+use Rattle.program_words.specs.Kinds.{is_help, kind_named}
 use Rattle.program_words.specs.Ports.{first_bad_port}
 use Rattle.program_words.specs.Words.{command_in, command_of, first_word_fault, is_taken, port_words, reading_of, reading_of_kind, rows_in, unless_bad_port}
 use Rattle.program_words.specs.declared.command.Command.{Command}
 use Rattle.program_words.specs.declared.command.Command.TheVariants as command
 use Rattle.program_words.specs.declared.command_kind.CommandKind.{CommandKind}
 use Rattle.program_words.specs.declared.command_kind.CommandKind.TheVariants as kind
+use Rattle.program_words.specs.declared.port_name.PortName.{PortName}
 use Rattle.program_words.specs.declared.words_fault.WordsFault.{WordsFault}
 use Rattle.program_words.specs.declared.words_fault.WordsFault.TheVariants as words_fault
 use Rattle.rescue_run.specs.Outcomes.{of_words_fault}
@@ -33,12 +34,12 @@ use Rattle.rescue_run.specs.declared.outcome.Outcome.{Outcome}
 use Rattle.rescue_run.specs.declared.outcome.Outcome.TheVariants.{PortCount, Words, Memory}
 use Rattle.rescue_run.specs.declared.outcome.Which.TheVariants as which
 use Rattle.rescue_run.specs.Loading.{later_loads, points_load_if, Answers, Read}
-use Rattle.rescue_run.specs.Prepares.{AreAnswersFor, ListsFile, Prepares, PreparesCommand, PreparesCounted, StartsFiles}
+use Rattle.rescue_run.specs.Prepares.{AreAnswersFor, AuditsFiles, ListsFile, Prepares, PreparesCommand, PreparesCounted, StartsFiles}
 use Rattle.rescue_run.specs.Reads.{AreAnswers, IsAskedFor, IsOrMemory}
 use Rattle.rescue_run.specs.ReadsFiles.{ReadsFiles, ReadsSymbols}
 use Rattle.rescue_run.specs.Tasks.{runs_threads, CanStart}
 use Rattle.rescue_run.specs.Words.{files_of, lacks_threads, loads_by, loads_for, loads_read, needs_threads, ports_named, run_with, task_by, task_read, list_with}
-use Rattle.rescue_run.proofs.Shelving.{answer_among, follows_same, none_answered, no_answers, take_none}
+use Rattle.rescue_run.proofs.Shelving.{answer_among, follows_same, none_answered, no_answers, take_none, two_answers}
 
 -- an answer that a function takes over
 
@@ -50,13 +51,13 @@ value_on : {A B : Type 0} (f : Result A Outcome → Result B Outcome) (r value :
 value_on f r value keeps (inl is) = inl (ap f is)
 value_on f r value keeps (inr memory) = inr (ap f memory ∙ keeps)
 
-pub starts_files : (f : Files) (setup : Setup) (old new : Shelved) (r : Result Loaded Outcome) → ReadsFiles f old new r
-    → StartsFiles f setup old new (run_with setup r)
-starts_files f setup old new r reads = record {
+pub starts_files : (f : Files) (setup : Setup) (save : Option (List ℕ)) (old new : Shelved) (r : Result Loaded Outcome) → ReadsFiles f old new r
+    → StartsFiles f setup save old new (run_with setup save r)
+starts_files f setup save old new r reads = record {
   answers = reads.answers;
   answered = reads.answered;
-  asked = asked_on old.asked new.asked _ (λ memory. ap (run_with setup) memory) reads.asked;
-  value = value_on (run_with setup) r _ refl reads.value;
+  asked = asked_on old.asked new.asked _ (λ memory. ap (run_with setup save) memory) reads.asked;
+  value = value_on (run_with setup save) r _ refl reads.value;
 }
 
 -- the list of the symbols of a program
@@ -69,24 +70,12 @@ lists_file name old new r reads = record {
   value = value_on list_with r _ refl reads.value;
 }
 
-no_points_if : (o : Option (ElfFault × ℕ)) (answer : Read) → points_load_if o None answer ≡ []
-no_points_if None answer = refl
-no_points_if (Some broken) answer = refl
-
-no_later : (program answer : Read) → later_loads None program answer ≡ []
-no_later (Ok program) answer = no_points_if (first_fault program) answer
-no_later (Err fault) answer = refl
-
 pub prepares_list : (name : List ℕ) (old new : Shelved) (r : Result Task Outcome) → ListsFile name old new r
     → PreparesCommand (command.List name) old new r
 prepares_list name old new r lists = record {
-  answers = record { program = lists.answer; points = Err shelf.Memory };
-  answered = record {
-    program = answer_among which.Program name old old new new lists.answer (follows_same old) lists.loads (follows_same new);
-    points = tt;
-  };
-  asked = inl (lists.loads.asked
-      ∙ ap (λ (xs : List Asked). old.asked ++ Load' name lists.answer ∷ xs) (sym (no_later lists.answer (Err shelf.Memory))));
+  answers = two_answers lists.answer (Err shelf.Memory);
+  answered = (answer_among which.Program name old old new new lists.answer (follows_same old) lists.loads (follows_same new), tt);
+  asked = inl lists.loads.asked;
   value = lists.value;
 }
 
@@ -96,7 +85,7 @@ nothing_asked : (old : List Asked) → old ≡ old ++ []
 nothing_asked old = sym (append-nil old)
 
 no_words_answered : (words : List (List ℕ)) (s : Shelved) → AreAnswersFor words s s no_answers
-no_words_answered words s c f is of = none_answered s s f
+no_words_answered words s c is = none_answered s s (files_of c)
 
 pub prepares_threads : (threads : Bool) (words : List (List ℕ)) (handed : ℕ) (s : Shelved) → lacks_threads threads words ≡ true
     → Prepares threads words handed s s (Err (Words Threads))
@@ -182,17 +171,35 @@ prepares_load number s r value = record {
   value = value;
 }
 
--- another number of ports is handed in than is named
-no_files_answered : (o : Option Files) (s : Shelved) → IfSome o (λ f. AreAnswers s s f no_answers)
-no_files_answered None s = tt
-no_files_answered (Some f) s = none_answered s s f
+-- an audit
+pub prepares_audit : (points : Option (List ℕ)) (history program input out err : List ℕ) (ports : List PortName) (old new : Shelved) (r : Result Task Outcome)
+    → AuditsFiles (record { program = program; points = points })
+    (record { history = history; input = input; out = out; err = err; ports = ports }) old new r
+    → PreparesCommand (command.Audit points history program input out err ports) old new r
+prepares_audit points history program input out err ports old new r a = record {
+  answers = a.answers;
+  answered = a.answered;
+  asked = a.asked;
+  value = a.value;
+}
 
+-- a command for which no file is asked, and which is refused
+pub prepares_unknown : (c : Command) (s : Shelved) (outcome : Outcome) → task_by c no_answers ≡ Err outcome → loads_by c no_answers ≡ []
+    → PreparesCommand c s s (Err outcome)
+prepares_unknown c s outcome refused none = record {
+  answers = no_answers;
+  answered = none_answered s s (files_of c);
+  asked = inl (nothing_asked s.asked ∙ ap (λ (xs : List Asked). s.asked ++ xs) (sym none));
+  value = inl (sym refused);
+}
+
+-- another number of ports is handed in than is named
 pub counted_other : (c : Command) (handed : ℕ) (s : Shelved) (named : ℕ) → named ≡ ports_named c → (named == handed) ≡ false
     → PreparesCounted c handed s s (Err (PortCount named handed))
 counted_other c handed s named is other =
     let apart : (ports_named c == handed) ≡ false = subst (λ n. (n == handed) ≡ false) is other in record {
       answers = no_answers;
-      answered = no_files_answered (files_of c) s;
+      answered = none_answered s s (files_of c);
       asked = inl (subst (λ b. s.asked ≡ s.asked ++ (if b then loads_by c no_answers else [])) (sym apart) (nothing_asked s.asked));
       value = inl (subst (λ b. Err (PortCount named handed) ≡ (if b then task_by c no_answers else Err (PortCount (ports_named c) handed))) (sym apart)
           (ap (λ n. Err (PortCount n handed)) is));
@@ -211,35 +218,40 @@ counted_same c handed old new result named is equal p =
 same_command : (r : Result Command WordFault) (c d : Command) → r ≡ Ok c → r ≡ Ok d → c ≡ d
 same_command r c d p q = search (p, q)
 
-given_files : (o : Option Files) (f : Files) (P : Files → Type 0) → IfSome o P → o ≡ Some f → P f
-given_files o f P holds is = subst (λ x. IfSome x P) is holds
-
 -- the command is prepared
 pub prepares_command : (threads : Bool) (words : List (List ℕ)) (handed : ℕ) (old new : Shelved) (result : Result Task Outcome) (c : Command)
     → lacks_threads threads words ≡ false → command_of words ≡ Ok c → PreparesCounted c handed old new result
     → Prepares threads words handed old new result
 prepares_command threads words handed old new result c has is p =
     prepares_read threads words handed old new result p.answers (Ok c) has is
-    (λ d f reads of. given_files (files_of d) f (λ x. AreAnswers old new x p.answers)
-    (subst (λ k. IfSome (files_of k) (λ x. AreAnswers old new x p.answers)) (same_command (command_of words) c d is reads) p.answered) of)
+    (λ d reads. subst (λ k. AreAnswers old new (files_of k) p.answers) (same_command (command_of words) c d is reads) p.answered)
     p.asked p.value
 
 -- a command that is read runs on threads only where its first word says so
 
-run_named : (a b c d : Bool)
-    → (if a then Some kind.Run else if b then Some kind.Alone else if c then Some kind.List else if d then Some kind.Load else None) ≡ Some kind.Run
+run_named : (a b c d e f g h : Bool)
+    → (if a then Some kind.Run else if b then Some kind.Alone else if c then Some kind.List else if d then Some kind.Load
+    else if e then Some kind.Audit else if f then Some kind.Try else if g then Some kind.Help else if h then Some kind.Version else None) ≡ Some kind.Run
     → a ≡ true
-run_named true b c d is = refl
-run_named false true c d is = cc
-run_named false false true d is = cc
-run_named false false false true is = cc
-run_named false false false false is = cc
+run_named true b c d e f g h is = refl
+run_named false true c d e f g h is = cc
+run_named false false true d e f g h is = cc
+run_named false false false true e f g h is = cc
+run_named false false false false true f g h is = cc
+run_named false false false false false true g h is = cc
+run_named false false false false false false true h is = cc
+run_named false false false false false false false true is = cc
+run_named false false false false false false false false is = cc
 
 run_rows : (k : CommandKind) (rest : List (List ℕ)) → IsTrue (runs_threads (command_in k (rows_in k rest))) → k ≡ kind.Run
 run_rows kind.Run rest threads = refl
 run_rows kind.Alone rest threads = cc
 run_rows kind.List rest threads = cc
 run_rows kind.Load rest threads = cc
+run_rows kind.Audit rest threads = cc
+run_rows kind.Try rest threads = cc
+run_rows kind.Help rest threads = cc
+run_rows kind.Version rest threads = cc
 
 taken_rows : {R : Type 0} (k : CommandKind) (rows : R) (bad : Option ℕ) (taken : Bool) (f : CommandKind × R → Command) (c : Command)
     → result_map_both f (λ x. x) (if taken then unless_bad_port (k, rows) bad else Err Line) ≡ Ok c → f (k, rows) ≡ c
@@ -260,6 +272,7 @@ run_read : (words : List (List ℕ)) (c : Command) → command_of words ≡ Ok c
 run_read [] c is threads = cc
 run_read (first ∷ rest) c is threads =
     run_named (bytes_eq first (codes "run")) (bytes_eq first (codes "alone")) (bytes_eq first (codes "list")) (bytes_eq first (codes "load"))
+    (bytes_eq first (codes "audit")) (bytes_eq first (codes "try")) (is_help first) (bytes_eq first (codes "--version"))
     (run_kind (kind_named first) rest c is threads)
 
 has_threads : (threads : Bool) (words : List (List ℕ)) → lacks_threads threads words ≡ false → IsTrue (needs_threads words) → IsTrue threads
@@ -270,6 +283,7 @@ start_on : (a b : Bool) (t : Task) → (IsTrue a → IsTrue b) → CanStart a t 
 start_on a b (task.Run start) on can = record { loads = can.loads; within = can.within; order = λ is. on (can.order is) }
 start_on a b (task.List symbols) on can = tt
 start_on a b (task.Load load) on can = can
+start_on a b (task.Audit audit) on can = can
 
 pub can_start : (threads : Bool) (words : List (List ℕ)) (c : Command) (r : Result Task Outcome) → lacks_threads threads words ≡ false
     → command_of words ≡ Ok c → IfOk r (CanStart (runs_threads c)) → IfOk r (CanStart threads)

@@ -9,7 +9,7 @@ use Rattle.rescue_run.specs.declared.files.Files.{Files}
 use Rattle.rescue_run.specs.declared.outcome.Which.{Which}
 use Rattle.rescue_run.specs.declared.outcome.Which.TheVariants as which
 use Rattle.rescue_run.specs.Outcomes.{limit_of}
-use Rattle.rescue_run.specs.Loading.{Answers, Read}
+use Rattle.rescue_run.specs.Loading.{named_files, points_files, Answers, NamedFile, Read}
 use Rattle.rescue_run.specs.Reads.{AreAnswers, Follows, IsAnswer}
 
 pub follows_same : (s : Shelved) → Follows s s
@@ -55,7 +55,7 @@ answer_among w name old a b new answer p l q = record {
   within = l.within;
   below = l.below;
   told = λ tells. moved_ok old a name answer (p.files name) (l.told (subst IsTrue (sym p.tells) tells));
-  cause = λ failed. rose (old.faults name) (a.faults name) (b.faults name) (new.faults name) (p.later name) (l.cause failed) (q.later name);
+  cause = λ reason failed. rose (old.faults name) (a.faults name) (b.faults name) (new.faults name) (p.later name) (l.cause reason failed) (q.later name);
   long = λ size long. rose (old.longs name (limit_of w)) (a.longs name (limit_of w)) (b.longs name (limit_of w)) (new.longs name (limit_of w))
       (p.longs_later name (limit_of w)) (l.long size long) (q.longs_later name (limit_of w));
   over = l.over;
@@ -68,7 +68,7 @@ no_answer old new w name = record {
   within = tt;
   below = tt;
   told = λ tells. tt;
-  cause = λ e. absurd (both_ways false refl (ap is_failed e));
+  cause = λ reason e. absurd (both_ways false refl (ap is_failed e));
   long = λ size e. absurd (both_ways false refl (ap is_long e));
   over = λ size e. absurd (both_ways false refl (ap is_long e));
   long_told = λ tells size e. absurd (both_ways false refl (ap is_long e));
@@ -78,14 +78,50 @@ pub if_some : {A : Type 0} (P : A → Type 0) (o : Option A) → ((x : A) → P 
 if_some P None each = tt
 if_some P (Some x) each = each x
 
-abbrev pub no_answers : Answers
-no_answers = record { program = Err Memory; points = Err Memory }
+-- no file was asked for
+abbrev pub no_answers : Which → Read
+no_answers w = Err Memory
 
-pub none_answered : (old new : Shelved) (f : Files) → AreAnswers old new f no_answers
-none_answered old new f = record {
-  program = no_answer old new which.Program f.program;
-  points = if_some (λ name. IsAnswer old new which.Points name (Err Memory)) f.points (λ name. no_answer old new which.Points name);
+pub none_answered : (old new : Shelved) (files : List NamedFile) → AreAnswers old new files no_answers
+none_answered old new [] = tt
+none_answered old new (f ∷ files) = (no_answer old new f.0 f.1, none_answered old new files)
+
+-- the program was, and maybe the rescue file
+abbrev pub two_answers : Read → Read → Which → Read
+two_answers program points which.Program = program
+two_answers program points which.Points = points
+two_answers program points which.History = Err Memory
+two_answers program points (which.Device number) = Err Memory
+
+answered_points : (old new : Shelved) (o : Option (List ℕ)) (answers : Answers) → IfSome o (λ name. IsAnswer old new which.Points name (answers which.Points))
+    → AreAnswers old new (points_files o) answers
+answered_points old new None answers points = tt
+answered_points old new (Some name) answers points = (points, tt)
+
+pub answered_files : (f : Files) (old new : Shelved) (answers : Answers) → IsAnswer old new which.Program f.program (answers which.Program)
+    → IfSome f.points (λ name. IsAnswer old new which.Points name (answers which.Points)) → AreAnswers old new (named_files f) answers
+answered_files f old new answers program points = (program, answered_points old new f.points answers points)
+
+-- an answer, after further loads
+pub answer_later : (w : Which) (name : List ℕ) (old a new : Shelved) (answer : Read) → IsAnswer old a w name answer → Follows a new → IsAnswer old new w name answer
+answer_later w name old a new answer is q = record {
+  within = is.within;
+  below = is.below;
+  told = is.told;
+  cause = λ reason failed. let x = is.cause reason failed in let y = q.later name in grind (arith, x, y);
+  long = λ size long. let x = is.long size long in let y = q.longs_later name (limit_of w) in grind (arith, x, y);
+  over = is.over;
+  long_told = is.long_told;
 }
+
+pub answers_later : (old a new : Shelved) (files : List NamedFile) (answers : Answers) → AreAnswers old a files answers → Follows a new → AreAnswers old new files answers
+answers_later old a new [] answers are q = tt
+answers_later old a new (f ∷ files) answers are q = (answer_later f.0 f.1 old a new (answers f.0) are.0 q, answers_later old a new files answers are.1 q)
+
+pub answers_both : (old new : Shelved) (files more : List NamedFile) (answers : Answers) → AreAnswers old new files answers → AreAnswers old new more answers
+    → AreAnswers old new (files ++ more) answers
+answers_both old new [] more answers are too = too
+answers_both old new (f ∷ files) more answers are too = (are.0, answers_both old new files more answers are.1 too)
 
 pub take_one : {A : Type 0} (x : A) (xs : List A) → take 1 (x ∷ xs) ≡ x ∷ []
 take_one x [] = refl

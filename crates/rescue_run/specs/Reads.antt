@@ -1,16 +1,15 @@
 -- What a shelf's answers rest on.
-use Rattle.std.specs.Prelude.{◌≡◌, ◌⊎◌, ℕ, ◌<◌, ◌≤◌, All, List, ◌++◌, length, take, Option, Some, option_map, Result, Err, IsTrue, IfOk, IfSome}
+use Rattle.std.specs.Prelude.{◌≡◌, ◌⊎◌, ℕ, ◌<◌, ◌≤◌, All, List, [], ◌∷◌, ◌++◌, length, take, Option, Some, option_map, Result, Err, IsTrue, IfOk}
 use Rattle.edge_ports.specs.Asked.{Asked}
 use Rattle.edge_ports.specs.End.{Rose}
 use Rattle.edge_ports.specs.Shelves.{Shelved}
+use Rattle.edge_ports.specs.declared.reason.Reason.{Reason}
 use Rattle.edge_ports.specs.declared.shelf.ShelfFault.TheVariants.{Failed, TooLong}
-use Rattle.rescue_run.specs.declared.files.Files.{Files}
 use Rattle.rescue_run.specs.declared.outcome.Which.{Which}
-use Rattle.rescue_run.specs.declared.outcome.Which.TheVariants as which
 use Rattle.rescue_run.specs.declared.outcome.Outcome.{Outcome}
 use Rattle.rescue_run.specs.declared.outcome.Outcome.TheVariants.{Memory}
 use Rattle.rescue_run.specs.Outcomes.{limit_of}
-use Rattle.rescue_run.specs.Loading.{Answers, Read}
+use Rattle.rescue_run.specs.Loading.{Answers, NamedFile, Read}
 
 -- a shelf's answer for a file of a name: no more bytes than are read, each below 256, and those of
 -- the file where it tells; a file isn't read only where its count rose
@@ -18,17 +17,19 @@ pub record IsAnswer (old new : Shelved) (w : Which) (name : List ℕ) (answer : 
   pub within : IfOk answer (λ bytes. length bytes ≤ limit_of w)
   pub below : IfOk answer (λ bytes. All (λ b. b < 256) bytes)
   pub told : IsTrue old.tells → IfOk answer (λ bytes. old.file name ≡ Some bytes)
-  pub cause : answer ≡ Err Failed → Rose (old.faults name) (new.faults name)
+  pub cause : (reason : Reason) → answer ≡ Err (Failed reason)
+      → Rose (old.faults name) (new.faults name)
   pub long : (size : ℕ) → answer ≡ Err (TooLong size)
       → Rose (old.longs name (limit_of w)) (new.longs name (limit_of w))
   pub over : (size : ℕ) → answer ≡ Err (TooLong size) → limit_of w < size
   pub long_told : IsTrue old.tells → (size : ℕ) → answer ≡ Err (TooLong size)
       → option_map length (old.file name) ≡ Some size
 
--- the answers for the files of a command
-pub record AreAnswers (old new : Shelved) (f : Files) (a : Answers) : Type 0 where
-  pub program : IsAnswer old new which.Program f.program a.program
-  pub points : IfSome f.points (λ name. IsAnswer old new which.Points name a.points)
+-- the answers for files
+abbrev pub AreAnswers : Shelved → Shelved → List NamedFile → Answers → Type 0
+AreAnswers old new [] answers = Unit {0}
+AreAnswers old new (file ∷ files) answers =
+    IsAnswer old new file.0 file.1 (answers file.0) × AreAnswers old new files answers
 
 -- a shelf after some loads: every file stays, and no count falls
 pub record Follows (old new : Shelved) : Type 0 where

@@ -1,19 +1,22 @@
 -- How the files of a command are read, one after the other.
-use Rattle.std.specs.Prelude.{◌≡◌, ◌⊎◌, ℕ, List, [], Option, Some, None, Result, Ok, Err}
+use Rattle.std.specs.Prelude.{◌≡◌, ◌⊎◌, ℕ, List, [], ◌∷◌, Option, Some, None, Result, Ok, Err}
 use Rattle.guest_words.specs.declared.elf_fault.ElfFault.{ElfFault}
 use Rattle.guest_words.specs.declared.point.Point.{Point}
 use Rattle.guest_words.specs.Image.{first_fault}
 use Rattle.edge_ports.specs.Shelves.{Loads, Shelved}
+use Rattle.edge_ports.specs.declared.shelf.ShelfFault.{ShelfFault}
 use Rattle.elf_symbols.specs.declared.sym_fault.SymFault.{SymFault}
 use Rattle.elf_symbols.specs.declared.symbol.Symbol.{Symbol}
 use Rattle.elf_symbols.specs.SymbolTable.{first_symbol_fault}
+use Rattle.rescue_audit.specs.declared.files.PortFile.{PortFile}
 use Rattle.rescue_run.specs.declared.files.Files.{Files}
+use Rattle.rescue_run.specs.declared.further.Further.{Further}
 use Rattle.rescue_run.specs.declared.start.Loaded.{Loaded}
 use Rattle.rescue_run.specs.declared.outcome.Which.TheVariants as which
 use Rattle.rescue_run.specs.declared.outcome.Outcome.{Outcome}
 use Rattle.rescue_run.specs.declared.outcome.Outcome.TheVariants.{Elf, Symbols, Memory}
-use Rattle.rescue_run.specs.Outcomes.{limit_of}
-use Rattle.rescue_run.specs.Loading.{image_of, listed_by, loaded_of, loads_of_files, points_read, with_points, Answers, Read}
+use Rattle.rescue_run.specs.Outcomes.{limit_of, of_shelf_fault}
+use Rattle.rescue_run.specs.Loading.{image_of, listed_by, loaded_of, loads_of_files, named_files, points_read, with_points, Answers, NamedFile, Read}
 use Rattle.rescue_run.specs.Reads.{AreAnswers, Follows, IsAskedFor, IsOrMemory}
 
 -- the rule that a program breaks first, or want of memory
@@ -68,7 +71,7 @@ ReadsLater name program old new result =
 pub record ReadsFiles (f : Files) (old new : Shelved) (result : Result Loaded Outcome) : Type 0
   where
     pub answers : Answers
-    pub answered : AreAnswers old new f answers
+    pub answered : AreAnswers old new (named_files f) answers
     pub asked : IsAskedFor (result ≡ Err Memory) old.asked new.asked (loads_of_files f answers)
     pub value : IsOrMemory result (loaded_of f answers)
 
@@ -78,3 +81,40 @@ pub record ReadsSymbols (name : List ℕ) (old new : Shelved)
   pub answer : Read
   pub loads : Loads old new name (limit_of which.Program) answer
   pub value : IsOrMemory result (listed_by answer)
+
+-- files were loaded, one after the other, and have these bytes
+abbrev pub ReadsAll : List NamedFile → Shelved → Shelved → List (List ℕ) → Type 0
+ReadsAll [] old new [] = new ≡ old
+ReadsAll (file ∷ files) old new (bytes ∷ more) =
+    (between : Shelved) × (Loads old between file.1 (limit_of file.0) (Ok bytes)
+    × ReadsAll files between new more)
+ReadsAll files old new bytes = ⊥
+
+-- one of them wasn't read, and none behind it was asked for
+pub record StopsHere (file : NamedFile) (old new : Shelved) (outcome : Outcome) : Type 0 where
+  pub fault : ShelfFault
+  pub loads : Loads old new file.1 (limit_of file.0) (Err fault)
+  pub names : outcome ≡ of_shelf_fault file.0 fault
+
+abbrev pub StopsAmong : List NamedFile → Shelved → Shelved → Outcome → Type 0
+StopsAmong [] old new outcome = ⊥
+StopsAmong (file ∷ files) old new outcome =
+    StopsHere file old new outcome
+    ⊎ ((between : Shelved) × ((bytes : List ℕ)
+    × (Loads old between file.1 (limit_of file.0) (Ok bytes)
+    × StopsAmong files between new outcome)))
+
+-- either, by the bytes of a value
+abbrev pub ReadsTo : {T : Type 0} → (T → List (List ℕ)) → List NamedFile → Shelved → Shelved
+    → Result T Outcome → Type 0
+ReadsTo bytes files old new (Ok value) = ReadsAll files old new (bytes value)
+ReadsTo bytes files old new (Err outcome) = StopsAmong files old new outcome
+
+-- the bytes of the files of ports, and of all further files, in order
+abbrev pub port_bytes : List PortFile → List (List ℕ)
+port_bytes [] = []
+port_bytes (port ∷ ports) = port.input ∷ port.output ∷ port_bytes ports
+
+abbrev pub further_bytes : Further → List (List ℕ)
+further_bytes f =
+    f.history ∷ f.files.input ∷ f.files.out ∷ f.files.err ∷ port_bytes f.files.ports

@@ -17,7 +17,7 @@ is_threaded Workers = true
 
 -- the command runs a program on threads
 abbrev pub runs_threads : Command → Bool
-runs_threads (command.Run points harts budget program ports) = true
+runs_threads (command.Run points harts budget save program ports) = true
 runs_threads _ = false
 
 -- a machine can be started and driven so, where there are threads or none
@@ -31,3 +31,4 @@ abbrev pub CanStart : Bool → Task → Type 0
 CanStart threads (task.Run start) = CanRun threads start
 CanStart threads (task.List symbols) = Unit {0}
 CanStart threads (task.Load load) = CanRun false load.start
+CanStart threads (task.Audit audit) = IsLoadList audit.loaded.image.loads

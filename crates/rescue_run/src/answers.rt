@@ -1,28 +1,39 @@
 //! What each kind of command is answered.
-ghost use Rattle.std.specs.Prelude.{◌≡◌, None, Some, false, true};
+ghost use Rattle.std.specs.Prelude.{◌≡◌, length, None, Some, false, true};
 ghost use Rattle.edge_ports.specs.declared.devices.Devices.{Devices};
+ghost use Rattle.edge_ports.specs.End.{End};
 ghost use Rattle.edge_ports.specs.Seen.{seen};
+ghost use Rattle.edge_ports.specs.Shelves.{Shelved};
+ghost use Rattle.guest_words.specs.Image.{IsLoadList};
+ghost use Rattle.history_file.specs.HistoryBytes.{history_bytes};
+ghost use Rattle.history_file.specs.Spelled.{IsHead};
 ghost use Rattle.machine_core.specs.Machine.{AllOpen};
 ghost use Rattle.rescue_report.specs.Report.{report_of};
 ghost use Rattle.rescue_report.specs.Summary.{summary_of};
-ghost use Rattle.rescue_run.specs.Headline.{IsListing, IsLoadRun, IsRunOn};
+ghost use Rattle.rescue_run.specs.Headline.{IsAudit, IsListing, IsLoadRun, IsRunOn};
 ghost use Rattle.rescue_run.specs.Lines.{line_of};
 ghost use Rattle.rescue_run.specs.Puts.{IsSaid, IsTold, PutsText};
+ghost use Rattle.rescue_run.specs.Runs.{head_of};
+ghost use Rattle.rescue_run.specs.Saves.{SavesBehind};
 ghost use Rattle.rescue_run.specs.Statuses.{status_of};
 ghost use Rattle.rescue_run.specs.Tasks.{CanRun};
-ghost use Rattle.rescue_run.specs.Top.{told, RunsOn, StaySame};
-ghost use Rattle.rescue_run.specs.declared.start.Start.{Start};
+ghost use Rattle.rescue_run.specs.Top.{sides, told, RunsOn, StaySame};
+ghost use Rattle.rescue_run.specs.declared.outcome.Outcome.{Outcome};
 
 use crate::answer::Answer;
+use crate::audit::put_audit;
 use crate::listing::Listing;
 use crate::load::{LoadRan, run_load};
 use crate::outcome::Outcome;
 use crate::put::{put_line, put_report, put_summary, put_symbols};
 use crate::run::{Ran, run};
+use crate::save::save_behind;
 use crate::shared::run_on_threads;
 use crate::start::Start;
-use crate::task::LoadTask;
-use edge_ports::{Devices, Port, Sink, Source};
+use crate::task::{AuditTask, LoadTask};
+use edge_ports::{Devices, Port, Shelf, Sink, Source};
+use guest_words::Name;
+use history_file::Head;
 use std::alloc::Global;
 use std::sync::Wait;
 use std::thread::Threads;
@@ -75,8 +86,8 @@ pub fn answer_list<S: Source, T: Sink, P: Port, R: Sink>(
     devices: Devices<S, T, P>,
     report: &mut R,
 ) -> Answer<S, T, P>
-    ensures listing { IsListing listing.now (seen S.end T.end P.end devices) (R.end report.old)
-        (R.end report.new) (told S.end T.end P.end result) }
+    ensures listing { (s : Shelved) → IsListing listing.now (seen S.end T.end P.end devices)
+        (sides s s (R.end report.old) (R.end report.new)) (told S.end T.end P.end result) }
     ensures status { result.status ≡ status_of result.outcome }
     ensures same { StaySame result.history devices result.devices }
 {
@@ -84,14 +95,39 @@ pub fn answer_list<S: Source, T: Sink, P: Port, R: Sink>(
     still(outcome, devices)
 }
 
-/// The answer of a run that left this: its report is put.
-fn answer_of_ran<S, T, P, R: Sink>(
+/// The answer of an audit: what it says is put.
+pub fn answer_audit<S: Source, T: Sink, P: Port, R: Sink>(
     alloc: Global,
-    ran: Ran<S, T, P>,
+    task: &AuditTask,
+    devices: Devices<S, T, P>,
     report: &mut R,
 ) -> Answer<S, T, P>
-    ensures puts { PutsText (report_of ran.history.entries ran.points) ran.ending result.outcome
-        (R.end report.old) (R.end report.new) }
+    requires image { IsLoadList task.now.loaded.image.loads }
+    ensures audit { (s : Shelved) → IsAudit task.now (seen S.end T.end P.end devices)
+        (sides s s (R.end report.old) (R.end report.new)) (told S.end T.end P.end result) }
+    ensures status { result.status ≡ status_of result.outcome }
+    ensures same { StaySame result.history devices result.devices }
+{
+    let outcome = put_audit(alloc, report, task);
+    still(outcome, devices)
+}
+
+/// The answer of a run that left this: its report is put, and its history is saved where a name is
+/// given.
+fn answer_of_ran<F: Shelf, S, T, P, R: Sink>(
+    alloc: Global,
+    save: &Option<Name>,
+    head: &Head,
+    ran: Ran<S, T, P>,
+    report: &mut R,
+    shelf: &mut F,
+) -> Answer<S, T, P>
+    requires head { IsHead head.now }
+    ensures reports { (middle : Outcome) × ((between : End)
+        × (PutsText (report_of ran.history.entries ran.points) ran.ending middle (R.end report.old)
+        between
+        × SavesBehind save.now (history_bytes head.now ran.history.entries) middle result.outcome
+        (sides (F.seen shelf.old) (F.seen shelf.new) between (R.end report.new)))) }
     ensures answer { result ≡ record {
       status = status_of result.outcome;
       outcome = result.outcome;
@@ -106,7 +142,8 @@ fn answer_of_ran<S, T, P, R: Sink>(
         devices,
         ending,
     } = ran;
-    let outcome = put_report(alloc, report, &history, &points, ending);
+    let put = put_report(alloc, report, &history, &points, ending);
+    let outcome = save_behind(alloc, save, head, &history, put, report, shelf);
     Answer {
         status: outcome.status(),
         outcome,
@@ -117,47 +154,55 @@ fn answer_of_ran<S, T, P, R: Sink>(
 }
 
 /// The answer of a run, or of the devices that came back since memory was wanting for its start.
-fn answer_of_run<S: Source, T: Sink, P: Port, R: Sink>(
+fn answer_of_run<F: Shelf, S: Source, T: Sink, P: Port, R: Sink>(
     alloc: Global,
+    start: &Start,
+    head: &Head,
     ran: Result<Ran<S, T, P>, Devices<S, T, P>>,
     report: &mut R,
+    shelf: &mut F,
 ) -> Answer<S, T, P>
-    ensures run { (start : Start) (devices : Devices S T P)
-        → RunsOn S.end T.end P.end start devices ran
-        → IsRunOn start (seen S.end T.end P.end devices) (R.end report.old) (R.end report.new)
+    requires head { IsHead head.now }
+    ensures run { (devices : Devices S T P) → RunsOn S.end T.end P.end start.now devices ran
+        → head.now ≡ head_of start.now (length devices.ports.items)
+        → IsRunOn start.now (seen S.end T.end P.end devices)
+        (sides (F.seen shelf.old) (F.seen shelf.new) (R.end report.old) (R.end report.new))
         (told S.end T.end P.end result) }
     ensures status { result.status ≡ status_of result.outcome }
-    ensures same { (start : Start) (devices : Devices S T P)
-        → RunsOn S.end T.end P.end start devices ran
+    ensures same { (devices : Devices S T P) → RunsOn S.end T.end P.end start.now devices ran
         → StaySame result.history devices result.devices }
 {
     match ran {
         Err(devices) => answer_with_line(alloc, Outcome::Memory, devices, report),
-        Ok(ran) => answer_of_ran(alloc, ran, report),
+        Ok(ran) => answer_of_ran(alloc, &start.save, head, ran, report, shelf),
     }
 }
 
 /// Runs what was loaded on the devices, on one thread.
-pub fn answer_run<S: Source, T: Sink, P: Port, R: Sink>(
+pub fn answer_run<F: Shelf, S: Source, T: Sink, P: Port, R: Sink>(
     alloc: Global,
     start: &Start,
     devices: Devices<S, T, P>,
     report: &mut R,
+    shelf: &mut F,
 ) -> Answer<S, T, P>
     requires can { CanRun false start.now }
     requires open { AllOpen (seen S.end T.end P.end devices) }
-    ensures run { IsRunOn start.now (seen S.end T.end P.end devices) (R.end report.old)
-        (R.end report.new) (told S.end T.end P.end result) }
+    ensures run { IsRunOn start.now (seen S.end T.end P.end devices)
+        (sides (F.seen shelf.old) (F.seen shelf.new) (R.end report.old) (R.end report.new))
+        (told S.end T.end P.end result) }
     ensures status { result.status ≡ status_of result.outcome }
     ensures same { StaySame result.history devices result.devices }
 {
+    let head = start.head(devices.ports.len() as u64);
     let ran = run(alloc, start, devices);
-    answer_of_run(alloc, ran, report)
+    answer_of_run(alloc, start, &head, ran, report, shelf)
 }
 
 /// Runs what was loaded on the devices, where there are threads.
 pub fn answer_run_on_threads<
     H: Threads + Wait + Sync,
+    F: Shelf,
     S: Source + Send,
     T: Sink + Send,
     P: Port + Send,
@@ -169,17 +214,20 @@ pub fn answer_run_on_threads<
     start: &Start,
     devices: Devices<S, T, P>,
     report: &mut R,
+    shelf: &mut F,
     door: &D,
 ) -> Answer<S, T, P>
     requires can { CanRun true start.now }
     requires open { AllOpen (seen S.end T.end P.end devices) }
-    ensures run { IsRunOn start.now (seen S.end T.end P.end devices) (R.end report.old)
-        (R.end report.new) (told S.end T.end P.end result) }
+    ensures run { IsRunOn start.now (seen S.end T.end P.end devices)
+        (sides (F.seen shelf.old) (F.seen shelf.new) (R.end report.old) (R.end report.new))
+        (told S.end T.end P.end result) }
     ensures status { result.status ≡ status_of result.outcome }
     ensures same { StaySame result.history devices result.devices }
 {
+    let head = start.head(devices.ports.len() as u64);
     let ran = run_on_threads(rt, alloc, start, devices, door);
-    answer_of_run(alloc, ran, report)
+    answer_of_run(alloc, start, &head, ran, report, shelf)
 }
 
 /// The answer of the run of the load of this number with so many bytes of input: its summary is
@@ -234,8 +282,8 @@ pub fn answer_load<S: Source, T: Sink, P: Port, R: Sink>(
     report: &mut R,
 ) -> Answer<S, T, P>
     requires can { CanRun false load.start }
-    ensures run { IsLoadRun load (seen S.end T.end P.end devices) (R.end report.old)
-        (R.end report.new) (told S.end T.end P.end result) }
+    ensures run { (s : Shelved) → IsLoadRun load (seen S.end T.end P.end devices)
+        (sides s s (R.end report.old) (R.end report.new)) (told S.end T.end P.end result) }
     ensures status { result.status ≡ status_of result.outcome }
     ensures same { StaySame result.history devices result.devices }
 {

@@ -4,7 +4,6 @@ ghost use Rattle.edge_ports.specs.Adapters.{file_port_end};
 ghost use Rattle.edge_ports.specs.End.{untold};
 ghost use Rattle.program_words.specs.Words.{texts};
 ghost use Rattle.rescue_run.specs.Headline.{Headline};
-ghost use Rattle.rescue_run.specs.Reads.{Follows};
 ghost use Rattle.rescue_run.specs.Top.{handed, told};
 
 use crate::answer::Answer;
@@ -87,10 +86,9 @@ pub fn top_on_files<
         (handed S.end T.end (λ _. untold 0 0) input out err names.now)
         (K.end report.old) (K.end report.new)
         (told S.end T.end file_port_end result) }
-    ensures files { Follows (F.seen shelf.old) (F.seen shelf.new) }
 {
     let prepared = prepare(alloc, true, words, name_count(names), shelf);
     let ports = file_ports(files_for(files, &prepared), names, room);
     let devices = connect(input, out, err, ports);
-    answer_on_threads(rt, alloc, prepared, devices, report, door)
+    answer_on_threads(rt, alloc, prepared, devices, report, shelf, door)
 }

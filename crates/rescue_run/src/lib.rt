@@ -3,9 +3,12 @@
 
 mod answer;
 mod answers;
+mod audit;
 mod failures;
 mod file_ports;
 mod files;
+mod further;
+pub mod limits;
 mod lines;
 mod listing;
 mod load;
@@ -14,6 +17,7 @@ mod outcome;
 mod prepare;
 mod put;
 mod run;
+mod save;
 mod setup;
 mod shared;
 mod start;

@@ -43,7 +43,7 @@ fn load_task(number: u64, input: Bytes, loaded: Loaded) -> LoadTask
     ensures value { result ≡ record {
       number = number;
       input = input;
-      start = record { loaded = loaded; setup = load_setup number };
+      start = record { loaded = loaded; setup = load_setup number; save = None };
     } }
 {
     let setup = Setup {
@@ -54,7 +54,11 @@ fn load_task(number: u64, input: Bytes, loaded: Loaded) -> LoadTask
     LoadTask {
         number,
         input,
-        start: Start { loaded, setup },
+        start: Start {
+            loaded,
+            setup,
+            save: None,
+        },
     }
 }
 

@@ -2,18 +2,19 @@ ghost use Rattle.std.specs.Prelude.{◌≡◌, IfOk, false};
 ghost use Rattle.program_words.specs.Ranges.{IsInRange};
 ghost use Rattle.program_words.specs.Words.{texts};
 ghost use Rattle.rescue_run.specs.Outcomes.{of_words_fault};
-ghost use Rattle.rescue_run.specs.Prepares.{ListsFile, Prepares, PreparesCommand, PreparesCounted, StartsFiles};
+ghost use Rattle.rescue_run.specs.Prepares.{AuditsFiles, ListsFile, Prepares, PreparesCommand, PreparesCounted, StartsFiles};
 ghost use Rattle.rescue_run.specs.Reads.{Follows};
 ghost use Rattle.rescue_run.specs.Tasks.{is_threaded, runs_threads, CanStart};
 ghost use Rattle.rescue_run.specs.Words.{lacks_threads, needs_threads, ports_named, IsWithin};
 
 use crate::files::Files;
+use crate::further::{FurtherNames, load_further, room_for};
 use crate::load::prepare_load;
 use crate::loading::{load_files, load_symbols};
 use crate::outcome::Outcome;
 use crate::setup::{Schedule, Setup};
 use crate::start::Start;
-use crate::task::Task;
+use crate::task::{AuditTask, Task};
 use edge_ports::Shelf;
 use guest_words::Name;
 use program_words::{Command, WordFault, WordsFault, needs_threads, read_words};
@@ -43,13 +44,18 @@ fn refusal(fault: WordsFault) -> Outcome
     }
 }
 
-/// How many ports a command names.
+/// How many ports a command opens.
 fn named_ports(command: &Command) -> u64
     ensures value { result ≡ ports_named command.now }
 {
     match *command {
         Command::Run { ports, .. } | Command::Alone { ports, .. } => ports,
-        Command::List { .. } | Command::Load { .. } => 0,
+        Command::List { .. }
+        | Command::Load { .. }
+        | Command::Audit { .. }
+        | Command::Try { .. }
+        | Command::Help
+        | Command::Version => 0,
     }
 }
 
@@ -58,15 +64,20 @@ fn prepare_run<F: Shelf>(
     alloc: Global,
     files: Files,
     setup: Setup,
+    save: Option<Name>,
     shelf: &mut F,
 ) -> Result<Task, Outcome>
     requires within { IsWithin setup }
-    ensures starts { StartsFiles files setup (F.seen shelf.old) (F.seen shelf.new) result }
+    ensures starts { StartsFiles files setup save (F.seen shelf.old) (F.seen shelf.new) result }
     ensures can { IfOk result (CanStart (is_threaded setup.schedule)) }
     ensures follows { Follows (F.seen shelf.old) (F.seen shelf.new) }
 {
     let loaded = load_files(alloc, &files, shelf)?;
-    Ok(Task::Run(Start { loaded, setup }))
+    Ok(Task::Run(Start {
+        loaded,
+        setup,
+        save,
+    }))
 }
 
 /// The list of the symbols of a program.
@@ -77,6 +88,27 @@ fn prepare_list<F: Shelf>(alloc: Global, program: Name, shelf: &mut F) -> Result
 {
     let listing = load_symbols(alloc, &program, shelf)?;
     Ok(Task::List(listing))
+}
+
+/// The audit of a history. The room for the files of its ports is made before any is asked for.
+fn prepare_audit<F: Shelf>(
+    alloc: Global,
+    files: Files,
+    names: &FurtherNames,
+    shelf: &mut F,
+) -> Result<Task, Outcome>
+    ensures audits { AuditsFiles files names.now (F.seen shelf.old) (F.seen shelf.new) result }
+    ensures can { IfOk result (CanStart false) }
+    ensures follows { Follows (F.seen shelf.old) (F.seen shelf.new) }
+{
+    let room = room_for(alloc, names.ports.items())?;
+    let loaded = load_files(alloc, &files, shelf)?;
+    let further = load_further(alloc, names, room, shelf)?;
+    Ok(Task::Audit(AuditTask {
+        loaded,
+        history: further.history,
+        files: further.files,
+    }))
 }
 
 /// What a command asks for, or why nothing is done.
@@ -95,6 +127,7 @@ fn prepare_command<F: Shelf>(
             points,
             harts,
             budget,
+            save,
             program,
             ..
         } => {
@@ -103,13 +136,14 @@ fn prepare_command<F: Shelf>(
                 budget,
                 schedule: Schedule::Workers,
             };
-            prepare_run(alloc, Files { program, points }, setup, shelf)
+            prepare_run(alloc, Files { program, points }, setup, save, shelf)
         }
         Command::Alone {
             points,
             harts,
             budget,
             seed,
+            save,
             program,
             ..
         } => {
@@ -118,10 +152,31 @@ fn prepare_command<F: Shelf>(
                 budget,
                 schedule: Schedule::Lone { seed },
             };
-            prepare_run(alloc, Files { program, points }, setup, shelf)
+            prepare_run(alloc, Files { program, points }, setup, save, shelf)
         }
         Command::List { program } => prepare_list(alloc, program, shelf),
         Command::Load { number } => prepare_load(alloc, number),
+        Command::Audit {
+            points,
+            history,
+            program,
+            input,
+            out,
+            err,
+            ports,
+        } => {
+            let names = FurtherNames {
+                history,
+                input,
+                out,
+                err,
+                ports,
+            };
+            prepare_audit(alloc, Files { program, points }, &names, shelf)
+        }
+        Command::Try { .. } => Err(Outcome::Words(WordFault::UnknownCommand)),
+        Command::Help => Err(Outcome::Words(WordFault::UnknownCommand)),
+        Command::Version => Err(Outcome::Words(WordFault::UnknownCommand)),
     }
 }
 

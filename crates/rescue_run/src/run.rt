@@ -62,7 +62,7 @@ fn run_from<K: Origin, S: Source, T: Sink, P: Port>(
     requires devices { K.devices ≡ seen S.end T.end P.end devices }
     ensures runs { RunsOn S.end T.end P.end start.now devices result }
 {
-    let Start { loaded, setup } = start;
+    let Start { loaded, setup, .. } = start;
     let Schedule::Lone { seed } = setup.schedule else {
         unreachable!()
     };

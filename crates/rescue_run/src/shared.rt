@@ -43,7 +43,7 @@ fn work_from<
     requires devices { K.devices ≡ seen S.end T.end P.end devices }
     ensures runs { RunsOn S.end T.end P.end start.now devices result }
 {
-    let Start { loaded, setup } = start;
+    let Start { loaded, setup, .. } = start;
     let machine = Quiet::<K, S, T, P>::start(
         alloc,
         &loaded.image,

@@ -2,28 +2,78 @@
 use crate::file_ports::top_on_files;
 use crate::outcome::Outcome;
 use crate::put::put_line;
-use edge_ports::{FileShelf, Standard, StdSink, StdSource};
-use program_words::{PortNames, WordFault, WordsFault, port_names, report_to_out};
+use edge_ports::{FileShelf, Sink, Standard, StdSink, StdSource};
+use guest_words::Name;
+use program_words::{
+    Command, PortNames, WordFault, WordsFault, help_text, port_names, read_words, report_file,
+    report_to_out, version_text,
+};
 use std::fs::File;
-use std::io::ErrorKind;
+use std::io::{ErrorKind, Write};
 use std::process::ExitCode;
 use std::sync::Wait;
 use std::thread::Threads;
 use std::{env, fs, io};
 use stop_gate::OpenDoor;
 
+/// The status where a report, or another text in its place, can't be written.
+const UNWRITTEN: u8 = 74;
+
 /// Does what the words of the command line ask for, and answers the exit status. What the command
-/// tells goes to standard output where it is the command's own output, and else to standard error.
+/// tells goes to the file that its words name for it, else to standard output where it is the
+/// command's own output, and else to standard error.
 ///
 /// `host` starts the threads of a command that needs some, and then it may wait forever.
 pub fn run_program<H: Threads + Wait + Sync>(host: &H, rt: &HostRuntime) -> ExitCode {
     let _held = hold_streams(rt);
     match words_of(rt) {
         Ok(words) => {
-            let report = report_of(rt, &words);
-            run_words(host, rt, &words, report)
+            if let Some(status) = show(rt, &words) {
+                return status;
+            }
+            match report_file(rt.alloc(), &words) {
+                Ok(Some(name)) => run_reported(host, rt, &words, &name),
+                _ => run_words(host, rt, &words, report_of(rt, &words)),
+            }
         }
-        Err(outcome) => refuse(rt, Standard::Err(rt.stderr()), outcome),
+        Err(outcome) => refuse(rt, rt.stderr(), outcome),
+    }
+}
+
+/// Puts the help or the version on standard output where the words ask for it, and answers the
+/// exit status.
+fn show(rt: &HostRuntime, words: &[String]) -> Option<ExitCode> {
+    match read_words(rt.alloc(), words) {
+        Ok(Command::Help) => match help_text(rt.alloc()) {
+            Ok(text) => Some(put_shown(rt, text.items())),
+            Err(_) => Some(refuse(rt, rt.stderr(), Outcome::Memory)),
+        },
+        Ok(Command::Version) => Some(put_shown(rt, version_text().as_bytes())),
+        _ => None,
+    }
+}
+
+fn put_shown(rt: &HostRuntime, text: &[u8]) -> ExitCode {
+    match StdSink::new(rt.stdout()).put(text) {
+        Ok(()) => ExitCode::SUCCESS,
+        Err(_) => ExitCode::from(UNWRITTEN),
+    }
+}
+
+/// Does what the words ask for. All that the command tells goes to the file of this name, which is
+/// made, or emptied, before anything is done.
+fn run_reported<H: Threads + Wait + Sync>(
+    host: &H,
+    rt: &HostRuntime,
+    words: &[String],
+    name: &Name,
+) -> ExitCode {
+    match File::create(rt, name.items()) {
+        Ok(file) => run_words(host, rt, words, file),
+        Err(_) => {
+            let _ = StdSink::new(rt.stderr()).put(b"refused: report unwritable\n");
+            ExitCode::from(UNWRITTEN)
+        }
     }
 }
 
@@ -75,18 +125,18 @@ fn report_of(rt: &HostRuntime, words: &[String]) -> Standard {
 }
 
 /// Puts the line of an outcome, and answers its exit status.
-fn refuse(rt: &HostRuntime, report: Standard, outcome: Outcome) -> ExitCode {
+fn refuse<W: Write + Drop>(rt: &HostRuntime, report: W, outcome: Outcome) -> ExitCode {
     let mut report = StdSink::new(report);
     ExitCode::from(put_line(rt.alloc(), &mut report, outcome).status())
 }
 
 /// Does what the words of a command ask for. The ports are those that the words name, and none
 /// where they are refused.
-fn run_words<H: Threads + Wait + Sync>(
+fn run_words<H: Threads + Wait + Sync, W: Write + Drop>(
     host: &H,
     rt: &HostRuntime,
     words: &[String],
-    report: Standard,
+    report: W,
 ) -> ExitCode {
     let names = match port_names(rt.alloc(), words) {
         Ok(names) => names,

@@ -1,6 +1,7 @@
 use crate::listing::Listing;
-use crate::start::Start;
+use crate::start::{Loaded, Start};
 use guest_words::Bytes;
+use rescue_audit::AuditFiles;
 
 /// The load of a number, which runs on devices of its own.
 #[derive(Drop)]
@@ -8,6 +9,14 @@ pub struct LoadTask {
     pub number: u64,
     pub input: Bytes,
     pub start: Start,
+}
+
+/// A history file, and what it is held against.
+#[derive(Drop)]
+pub struct AuditTask {
+    pub loaded: Loaded,
+    pub history: Bytes,
+    pub files: AuditFiles,
 }
 
 /// What a command asks for that nothing refuses.
@@ -19,4 +28,6 @@ pub enum Task {
     List(Listing),
     /// To run a load, and to put its summary.
     Load(LoadTask),
+    /// To audit a history, and to put what that says.
+    Audit(AuditTask),
 }

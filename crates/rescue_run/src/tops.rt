@@ -4,14 +4,13 @@ ghost use Rattle.edge_ports.specs.Seen.{seen};
 ghost use Rattle.machine_core.specs.Machine.{AllOpen};
 ghost use Rattle.program_words.specs.Words.{texts};
 ghost use Rattle.rescue_run.specs.Headline.{ComesTo, Headline};
-ghost use Rattle.rescue_run.specs.Reads.{Follows};
 ghost use Rattle.rescue_run.specs.Statuses.{status_of};
 ghost use Rattle.rescue_run.specs.Tasks.{CanStart};
-ghost use Rattle.rescue_run.specs.Top.{handed, told, StaySame};
+ghost use Rattle.rescue_run.specs.Top.{handed, sides, told, StaySame};
 
 use crate::answer::Answer;
 use crate::answers::{
-    answer_list, answer_load, answer_run, answer_run_on_threads, answer_with_line,
+    answer_audit, answer_list, answer_load, answer_run, answer_run_on_threads, answer_with_line,
 };
 use crate::outcome::Outcome;
 use crate::prepare::prepare;
@@ -47,23 +46,26 @@ pub fn connect<S: Source, T: Sink, P: Port>(
 }
 
 /// Does what was prepared, on one thread, or puts why nothing is done.
-fn answer<S: Source, T: Sink, P: Port, R: Sink>(
+fn answer<F: Shelf, S: Source, T: Sink, P: Port, R: Sink>(
     alloc: Global,
     prepared: Result<Task, Outcome>,
     devices: Devices<S, T, P>,
     report: &mut R,
+    shelf: &mut F,
 ) -> Answer<S, T, P>
     requires can { IfOk prepared (CanStart false) }
     requires open { AllOpen (seen S.end T.end P.end devices) }
-    ensures comes { ComesTo prepared (seen S.end T.end P.end devices) (R.end report.old)
-        (R.end report.new) (told S.end T.end P.end result) }
+    ensures comes { ComesTo prepared (seen S.end T.end P.end devices)
+        (sides (F.seen shelf.old) (F.seen shelf.new) (R.end report.old) (R.end report.new))
+        (told S.end T.end P.end result) }
     ensures status { result.status ≡ status_of result.outcome }
     ensures same { StaySame result.history devices result.devices }
 {
     match prepared {
-        Ok(Task::Run(start)) => answer_run(alloc, &start, devices, report),
+        Ok(Task::Run(start)) => answer_run(alloc, &start, devices, report, shelf),
         Ok(Task::List(listing)) => answer_list(alloc, &listing, devices, report),
         Ok(Task::Load(load)) => answer_load(alloc, load, devices, report),
+        Ok(Task::Audit(task)) => answer_audit(alloc, &task, devices, report),
         Err(outcome) => answer_with_line(alloc, outcome, devices, report),
     }
 }
@@ -71,6 +73,7 @@ fn answer<S: Source, T: Sink, P: Port, R: Sink>(
 /// Does what was prepared, where there are threads, or puts why nothing is done.
 pub fn answer_on_threads<
     H: Threads + Wait + Sync,
+    F: Shelf,
     S: Source + Send,
     T: Sink + Send,
     P: Port + Send,
@@ -82,26 +85,32 @@ pub fn answer_on_threads<
     prepared: Result<Task, Outcome>,
     devices: Devices<S, T, P>,
     report: &mut R,
+    shelf: &mut F,
     door: &D,
 ) -> Answer<S, T, P>
     requires can { IfOk prepared (CanStart true) }
     requires open { AllOpen (seen S.end T.end P.end devices) }
-    ensures comes { ComesTo prepared (seen S.end T.end P.end devices) (R.end report.old)
-        (R.end report.new) (told S.end T.end P.end result) }
+    ensures comes { ComesTo prepared (seen S.end T.end P.end devices)
+        (sides (F.seen shelf.old) (F.seen shelf.new) (R.end report.old) (R.end report.new))
+        (told S.end T.end P.end result) }
     ensures status { result.status ≡ status_of result.outcome }
     ensures same { StaySame result.history devices result.devices }
 {
     match prepared {
-        Ok(Task::Run(start)) => { answer_run_on_threads(rt, alloc, &start, devices, report, door) }
+        Ok(Task::Run(start)) => {
+            answer_run_on_threads(rt, alloc, &start, devices, report, shelf, door)
+        }
         Ok(Task::List(listing)) => answer_list(alloc, &listing, devices, report),
         Ok(Task::Load(load)) => answer_load(alloc, load, devices, report),
+        Ok(Task::Audit(task)) => answer_audit(alloc, &task, devices, report),
         Err(outcome) => answer_with_line(alloc, outcome, devices, report),
     }
 }
 
 /// Does what the words of a command ask for: runs a program to its end, and puts the report; lists
-/// the symbols of a program; or runs a load on devices of its own, and puts its summary. All this
-/// on one thread: a command that needs more is refused.
+/// the symbols of a program; runs a load on devices of its own, and puts its summary; or audits a
+/// saved history, and puts what that says. All this on one thread: a command that needs more is
+/// refused. The history of a run is saved behind its report, where the words name a file for it.
 ///
 /// Where nothing is done, or a run doesn't end, the report sink is given one line instead. A
 /// failure of that put changes nothing in the answer. `ports` are the devices from descriptor 3 on,
@@ -125,11 +134,10 @@ pub fn alone_top<F: Shelf, S: Source, T: Sink, R: Sink>(
     ensures same { IsNone result.history
         → (result.devices.input ≡ input) × (result.devices.out ≡ out)
         × (result.devices.err ≡ err) × (result.devices.ports ≡ ports) }
-    ensures files { Follows (F.seen shelf.old) (F.seen shelf.new) }
 {
     let devices = connect(input, out, err, ports);
     let prepared = prepare(alloc, false, words, port_count(&devices), shelf);
-    answer(alloc, prepared, devices, report)
+    answer(alloc, prepared, devices, report, shelf)
 }
 
 /// Does what [`alone_top`] does, where there are threads: a command on threads runs a program by a
@@ -155,9 +163,8 @@ pub fn top<H: Threads + Wait + Sync, F: Shelf, S: Source + Send, T: Sink + Send,
     ensures same { IsNone result.history
         → (result.devices.input ≡ input) × (result.devices.out ≡ out)
         × (result.devices.err ≡ err) × (result.devices.ports ≡ ports) }
-    ensures files { Follows (F.seen shelf.old) (F.seen shelf.new) }
 {
     let devices = connect(input, out, err, ports);
     let prepared = prepare(alloc, true, words, port_count(&devices), shelf);
-    answer_on_threads(rt, alloc, prepared, devices, report, door)
+    answer_on_threads(rt, alloc, prepared, devices, report, shelf, door)
 }

@@ -1,4 +1,4 @@
-use crate::{FileShelf, Shelf, ShelfFault};
+use crate::{FileShelf, Reason, Shelf, ShelfFault};
 use guest_words::Bytes;
 use std::alloc::{AllocError, Global};
 use std::fs;
@@ -45,8 +45,8 @@ fn what_is_no_short_file_is_refused(rt: HostRuntime) -> Result<(), Fail> {
     fs::write(&rt, "edge_ports_long", "7 bytes")?;
     assert_eq!(rt; fault_of_load(&rt, "edge_ports_long")?, Some(long));
     fs::remove_file(&rt, "edge_ports_long")?;
-    for name in ["edge_ports_long", "."] {
-        assert_eq!(rt; fault_of_load(&rt, name)?, Some(ShelfFault::Failed));
+    for (name, reason) in [("edge_ports_long", Reason::NotFound), (".", Reason::Folder)] {
+        assert_eq!(rt; fault_of_load(&rt, name)?, Some(ShelfFault::Failed(reason)));
     }
     Ok(())
 }

@@ -1,6 +1,10 @@
-use Rattle.std.proofs.Common.{sym, subst}
+use Rattle.std.proofs.Common.{ap, sym, subst}
 use Rattle.rescue_run.specs.Prepares.{PreparesCommand}
-use Rattle.rescue_run.proofs.Preparing.{prepares_list, prepares_load}
+use Rattle.rescue_run.proofs.Preparing.{prepares_audit, prepares_list, prepares_load, prepares_unknown}
+use Rattle.rescue_run.proofs.Shelving.{no_answers}
+use Rattle.program_words.specs.declared.word_fault.WordFault.TheVariants.{UnknownCommand}
+use Rattle.rescue_run.specs.declared.outcome.Outcome.TheVariants.{Words}
+use Rattle.rescue_run.specs.Words.{loads_by, task_by}
 use Rattle.rescue_run.proofs.prepare.prepare_command.Goals as goal
 
 pub returns-in-List-clause-prepares : goal.returns-in-List-clause-prepares
@@ -15,3 +19,26 @@ returns-in-Load-clause-prepares g c =
     let s = g.F.Shelf.seen c.args.shelf.now in
     subst (λ k. PreparesCommand k s s c.prepare_load.result) (sym c.in-Load.is)
     (prepares_load c.in-Load.number s c.prepare_load.result c.prepare_load.ensures.value)
+
+pub returns-in-Audit-clause-prepares : goal.returns-in-Audit-clause-prepares
+returns-in-Audit-clause-prepares g c =
+    let old = g.F.Shelf.seen c.args.shelf.now in
+    let new = g.F.Shelf.seen c.prepare_audit.new.shelf in
+    let a = c.in-Audit in
+    subst (λ k. PreparesCommand k old new c.prepare_audit.result) (sym a.is)
+    (prepares_audit a.points a.history a.program a.input a.out a.err a.ports old new c.prepare_audit.result c.prepare_audit.ensures.audits)
+
+pub returns-in-Try-clause-prepares : goal.returns-in-Try-clause-prepares
+returns-in-Try-clause-prepares g c =
+    prepares_unknown c.args.command (g.F.Shelf.seen c.args.shelf.now) (Words UnknownCommand)
+    (ap (λ k. task_by k no_answers) c.in-Try.is) (ap (λ k. loads_by k no_answers) c.in-Try.is)
+
+pub returns-in-Help-clause-prepares : goal.returns-in-Help-clause-prepares
+returns-in-Help-clause-prepares g c =
+    prepares_unknown c.args.command (g.F.Shelf.seen c.args.shelf.now) (Words UnknownCommand)
+    (ap (λ k. task_by k no_answers) c.in-Help.is) (ap (λ k. loads_by k no_answers) c.in-Help.is)
+
+pub returns-clause-prepares : goal.returns-clause-prepares
+returns-clause-prepares g c =
+    prepares_unknown c.args.command (g.F.Shelf.seen c.args.shelf.now) (Words UnknownCommand)
+    (ap (λ k. task_by k no_answers) c.in-Version.is) (ap (λ k. loads_by k no_answers) c.in-Version.is)

@@ -3,5 +3,5 @@ use Rattle.rescue_run.proofs.tops.alone_top.Goals as goal
 
 pub returns-clause-headline : goal.returns-clause-headline
 returns-clause-headline g c =
-    headline_of _ _ _ _ _ _ _ _ _ _ _ c.connect-devices.ensures.told c.port_count.ensures c.prepare-prepared.ensures.prepares
-    c.answer.ensures.status c.answer.ensures.comes
+    headline_of _ _ _ _ _ _ _ _ _ _ _ _ c.connect-devices.ensures.told c.port_count.ensures c.prepare-prepared.ensures.prepares
+    c.prepare-prepared.ensures.follows c.answer.ensures.status c.answer.ensures.comes
