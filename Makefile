@@ -5,18 +5,21 @@
 # `install`, `check` and `test` take the program that is built, PROGRAM, where there is one. `make
 # build` proves and builds it from what stands here, which takes the toolchain (`rt version`) and,
 # the first time, an hour; the others do so where no program is there. `check` runs the examples,
-# `test` the scripts of tests/ with small counts, in some minutes.
+# `test` the scripts of tests/ with small counts, in some minutes. `install` puts rescue-view and
+# rescue-sweep there too where Python has the libraries that they take, and says what is missing
+# where not; `test-tools` runs their tests, those in a browser too.
 
 PREFIX = /usr/local
 DESTDIR =
 PROGRAM = crates/rescue/out/rescue
+PYTHON = $(shell tools/python.sh)
 
 BIN = $(DESTDIR)$(PREFIX)/bin
 MAN = $(DESTDIR)$(PREFIX)/share/man/man1
 DOC = $(DESTDIR)$(PREFIX)/share/doc/rescue
 PAGES = README.md CHANGELOG.md LICENSE
 
-.PHONY: program build install uninstall check test
+.PHONY: program build install uninstall check test install-tools test-tools
 
 program:
 	@if [ -x $(PROGRAM) ]; then \
@@ -31,16 +34,21 @@ program:
 build:
 	cd crates/rescue && rt run -- list ../../examples/server/server > /dev/null
 
-install: program
-	install -d $(BIN) $(MAN) $(DOC)/docs
+install: program install-tools
+	install -d $(BIN) $(MAN) $(DOC)/docs/pictures
 	install -m 755 $(PROGRAM) $(BIN)/rescue
 	install -m 644 docs/rescue.1 $(MAN)
 	install -m 644 $(PAGES) $(DOC)
 	install -m 644 docs/*.md $(DOC)/docs
+	install -m 644 docs/pictures/*.png $(DOC)/docs/pictures
 	tar -c --exclude=build --exclude=source examples | tar -x --no-same-owner -C $(DOC)
+
+install-tools:
+	tools/install.sh "$(PYTHON)" "$(DESTDIR)" "$(PREFIX)"
 
 uninstall:
 	rm -rf $(BIN)/rescue $(MAN)/rescue.1 $(DOC)
+	rm -rf $(BIN)/rescue-view $(BIN)/rescue-sweep $(DESTDIR)$(PREFIX)/share/rescue-tools
 
 check: program
 	examples/check.sh $(PROGRAM)
@@ -49,6 +57,12 @@ test: program
 	tests/gate_guests.py
 	tests/tables.py $(PROGRAM)
 	tests/streams.py $(PROGRAM)
+	tests/histories.py $(PROGRAM) --changes 10
 	tests/threads.py $(PROGRAM) --runs 20
 	tests/refusals.py $(PROGRAM) --every 97
 	tests/campaign.py $(PROGRAM) --cases 1000
+
+test-tools:
+	cd tools && $(PYTHON) -m pytest
+	cd tools && $(PYTHON) -m mypy src tests
+	cd tools && if command -v ruff > /dev/null; then ruff check .; fi

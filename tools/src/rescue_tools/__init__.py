@@ -1,0 +1,1 @@
+"""Programs beside `rescue`: one shows a run, one sweeps many."""
