@@ -5,9 +5,10 @@
 #
 # `alone` runs it with three seeds, and `run` on threads. What comes on standard output is compared
 # with `output`. The report is compared with `report` where that is there, and with `rescues` where
-# only faults and codes are the same each time. Where there is a qemu-riscv64 (package qemu-user),
-# it runs what meets no fault: `input-good`, which answers `output-good`. Ends with 1 if anything
-# differs.
+# only faults and codes are the same each time. What meets no fault, `input-good`, which answers
+# `output-good`, is run without points, and under qemu-riscv64 (package qemu-user) or
+# qemu-riscv64-static (qemu-user-static) where one is there. Prints a line for each example, and for each that is skipped with the reason. Ends
+# with 1 if anything differs.
 
 if [ $# -ne 1 ] || [ ! -x "$1" ]; then
     echo "usage: $0 RESCUE" >&2
@@ -17,7 +18,14 @@ rescue=$(cd "$(dirname "$1")" && pwd)/$(basename "$1")
 cd "$(dirname "$0")" || exit 1
 came=$(mktemp -d) || exit 1
 trap 'rm -rf "$came"' EXIT
+trap 'exit 129' HUP
+trap 'exit 130' INT
+trap 'exit 143' TERM
 differing=0
+qemu=$(command -v qemu-riscv64 || command -v qemu-riscv64-static)
+if [ -z "$qemu" ]; then
+    echo "qemu-riscv64: skipped; it takes qemu-user or qemu-user-static"
+fi
 
 # Says so if two files differ.
 compare() {
@@ -67,7 +75,7 @@ check() {
     points=
     if [ -f "$name/points.toml" ]; then points="--points $name/points.toml"; fi
     # shellcheck disable=SC2086 # words without spaces
-    timeout 120 "$rescue" $way $points "$name/$name" < "$(input_of input)" \
+    timeout 120 "$rescue" $way --budget 20000000 $points "$name/$name" < "$(input_of input)" \
         > "$came/output" 2> "$came/report"
     echo $? > "$came/status"
     compare_run "$name/output"
@@ -85,11 +93,18 @@ check_over_port() {
     compare_report
 }
 
-# Runs the example of this name under qemu-riscv64.
+# Runs the example of this name on requests that meet no fault: without points, and under qemu.
 check_without_faults() {
-    name=$1 way=qemu-riscv64 input=input output=output
+    name=$1 input=input output=output
     if [ -f "$name/input-good" ]; then input=input-good output=output-good; fi
-    timeout 120 qemu-riscv64 "$name/$name" < "$(input_of $input)" > "$came/output"
+    way="alone without points"
+    timeout 120 "$rescue" alone --budget 20000000 "$name/$name" < "$(input_of $input)" \
+        > "$came/output" 2> "$came/report"
+    echo $? > "$came/status"
+    compare_run "$name/$output"
+    if [ -z "$qemu" ]; then return; fi
+    way=qemu-riscv64
+    timeout 120 "$qemu" "$name/$name" < "$(input_of $input)" > "$came/output"
     echo $? > "$came/status"
     compare_run "$name/$output"
 }
@@ -110,16 +125,20 @@ make_guest() {
 }
 
 examples="hello server threads nested workers"
-for guest in words json sql; do
+for guest in words json sql xml lua; do
     if make_guest $guest; then examples="$examples $guest"; fi
 done
 for example in $examples; do
+    echo "$example"
     for way in "alone --seed 0" "alone --seed 1" "alone --seed 2" run; do
         check "$example" "$way"
     done
-    if command -v qemu-riscv64 > /dev/null; then check_without_faults "$example"; fi
+    check_without_faults "$example"
 done
+echo "workers, over a port"
 check_over_port alone
 check_over_port run
+# A saved history, and what an audit finds in one that was changed.
+if ! ./audit.sh "$rescue"; then differing=1; fi
 if [ $differing -eq 0 ]; then echo "as expected: $examples"; fi
 exit $differing

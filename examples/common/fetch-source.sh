@@ -19,6 +19,9 @@ done
 if [ -e "$folder" ]; then exit 0; fi
 work=$(mktemp -d) || exit 1
 trap 'rm -rf "$work"' EXIT
+trap 'exit 129' HUP
+trap 'exit 130' INT
+trap 'exit 143' TERM
 chmod 755 "$work"
 
 # apt-get with the sources of Debian 12 alone, and with lists and cache in the work folder.
