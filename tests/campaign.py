@@ -24,6 +24,8 @@ from rescue_points import points_text, random_points
 from workplace import parser, workplace
 
 LISTED = re.compile(rb"([0-9a-f]{16}) (\d+) (.*)")
+# first words that show a text, whatever stands behind them
+SHOWN = (["--help"], ["-h"], ["help"], ["--version"])
 SUMMARY = re.compile(rb"load \d+\nbytes \d+\nsum (?:\d+|none)\nsteps \d+\nrecords \d+\n"
                      rb"rescues \d+\nend [^\n]*\n")
 
@@ -132,6 +134,8 @@ class Runs:
         """What is wrong with an outcome of these words."""
         if came.status == WANTING and came.report() is None:
             return ["memory was wanting"]
+        if words[:1] in SHOWN:
+            return shown_faults(came)
         if came.refusal() is None and words[:1] in (["list"], ["load"]):
             return told_faults(words, came)
         return outcome.faults_of(came, self.case.expected(words))
@@ -140,6 +144,15 @@ class Runs:
 def seeded(words, seed):
     """The words with this seed."""
     return [words[0], f"--seed={seed}", *words[1:]]
+
+
+def shown_faults(came):
+    """What is wrong with the help or the version, or the refusal of words behind them."""
+    if came.err:
+        return ["text on standard error"]
+    if came.out.startswith(b"refused: "):
+        return outcome.faults_of(outcome.Outcome(came.status, b"", came.out), Expected())
+    return [] if came.out.startswith(b"rescue ") and came.status == 0 else ["another text"]
 
 
 def told_faults(words, came):
