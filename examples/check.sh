@@ -103,7 +103,7 @@ check_without_faults() {
     echo $? > "$came/status"
     compare_run "$name/$output"
     if [ -z "$qemu" ]; then return; fi
-    way=qemu-riscv64
+    way="qemu-riscv64"
     timeout 120 "$qemu" "$name/$name" < "$(input_of $input)" > "$came/output"
     echo $? > "$came/status"
     compare_run "$name/$output"
