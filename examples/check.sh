@@ -103,10 +103,20 @@ check_without_faults() {
     echo $? > "$came/status"
     compare_run "$name/$output"
     if [ -z "$qemu" ]; then return; fi
-    way="qemu-riscv64"
+    way=qemu-riscv64
     timeout 120 "$qemu" "$name/$name" < "$(input_of $input)" > "$came/output"
     echo $? > "$came/status"
     compare_run "$name/$output"
+}
+
+# Tries each function on the way to the fault of this guest as its only rescue point.
+check_tries() {
+    name=try/$1 way=tries
+    sed -n 's/^try [0-9a-f]* //p' "try/$1-tries" > "$came/expected"
+    # shellcheck disable=SC2046 # names without spaces
+    try/each.sh "$rescue" "try/$1" -1 $(cut -d ' ' -f 1 "$came/expected") < "try/$1-input" \
+        > "$came/tries"
+    compare "$came/expected" "$came/tries" tries
 }
 
 # Makes a guest that isn't kept here; 1 where it can't be had.
@@ -138,6 +148,8 @@ done
 echo "workers, over a port"
 check_over_port alone
 check_over_port run
+check_tries payments
+if make_guest try; then check_tries scores; fi
 # A saved history, and what an audit finds in one that was changed.
 if ! ./audit.sh "$rescue"; then differing=1; fi
 if [ $differing -eq 0 ]; then echo "as expected: $examples"; fi
