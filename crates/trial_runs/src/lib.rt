@@ -6,6 +6,8 @@ mod devices;
 mod failures;
 mod run;
 mod subject;
+#[cfg(test)]
+mod tests;
 mod tries;
 mod trying;
 
