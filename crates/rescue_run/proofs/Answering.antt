@@ -20,6 +20,7 @@ use Rattle.rescue_run.specs.declared.setup.Schedule.{Schedule}
 use Rattle.history_file.specs.declared.head.Head.{Head}
 use Rattle.history_file.specs.HistoryBytes.{history_bytes}
 use Rattle.rescue_run.specs.Audits.{IsAuditTold}
+use Rattle.rescue_run.specs.Tries.{IsTryTold}
 use Rattle.rescue_run.specs.Headline.{saved_bytes, AreDevices, ComesTo, Headline, IsLoadRun, IsRefused, IsRunOn, IsStill, ReportsRunOf, Told}
 use Rattle.rescue_run.specs.Lines.{line_of}
 use Rattle.rescue_run.specs.Load.{load_summary, IsLoadTo, RunsLoad}
@@ -87,6 +88,11 @@ memory_comes (Ok (task.List symbols)) handed s told is line still = record {
 memory_comes (Ok (task.Load load)) handed s told is line still = memory_load load handed s told is line still
 memory_comes (Ok (task.Audit audit)) handed s told is line still = record {
   says = subst (λ o. IsAuditTold audit o s.sink s.sink') (sym is)
+      (subst (λ o. IsTold (line_of o) s.sink s.sink') is line);
+  still = still;
+}
+memory_comes (Ok (task.Try t)) handed s told is line still = record {
+  says = subst (λ o. IsTryTold t o s.sink s.sink') (sym is)
       (subst (λ o. IsTold (line_of o) s.sink s.sink') is line);
   still = still;
 }
