@@ -16,7 +16,6 @@ use Rattle.rescue_run.specs.declared.task.Task.{Task}
 use Rattle.rescue_run.specs.declared.task.Task.TheVariants as task
 use Rattle.rescue_run.specs.declared.outcome.Outcome.{Outcome}
 use Rattle.rescue_run.specs.declared.outcome.Outcome.TheVariants.{Memory}
-use Rattle.rescue_run.specs.declared.setup.Schedule.{Schedule}
 use Rattle.history_file.specs.declared.head.Head.{Head}
 use Rattle.history_file.specs.HistoryBytes.{history_bytes}
 use Rattle.rescue_run.specs.Audits.{IsAuditTold}

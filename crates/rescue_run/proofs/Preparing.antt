@@ -1,16 +1,14 @@
 -- What is prepared for words, by what their reading, the number of the ports and the files give.
-use Rattle.std.proofs.Common.{◌≡◌, ◌⊎◌, inl, inr, ℕ, Bool, true, false, if◌then◌else◌, ◌==◌, List, [], ◌∷◌, ◌++◌, take, Option, Some, None, Result, Ok, Err, refl, ap, sym, ◌∙◌, subst, IfSome, IsTrue, ◌↔◌, is_some, slice_get, codes}
-use Rattle.std.specs.Prelude.{◌&&◌, ℤ, not, unwrap_or, IfOk}
+use Rattle.std.proofs.Common.{◌≡◌, inl, inr, ℕ, Bool, true, false, if◌then◌else◌, ◌==◌, List, [], ◌∷◌, ◌++◌, Option, Some, None, Result, Ok, Err, refl, ap, sym, ◌∙◌, subst, IsTrue, ◌↔◌, is_some, slice_get, codes}
+use Rattle.std.specs.Prelude.{ℤ, unwrap_or, IfOk}
 use Rattle.std.specs.Str.{bytes_eq}
 use Rattle.std.proofs.lemmas.Bool.{both_ways}
 use Rattle.std.proofs.lemmas.Slice.Eq.{bytes_eq-Decides}
 use Rattle.std.specs.Result.{result_err, result_map_both}
 use Rattle.std.proofs.lemmas.List.{append-nil}
-use Rattle.edge_ports.specs.Asked.{Asked, Loaded as Load'}
+use Rattle.edge_ports.specs.Asked.{Asked}
 use Rattle.edge_ports.specs.declared.shelf.ShelfFault.TheVariants as shelf
 use Rattle.elf_symbols.specs.declared.symbol.Symbol.{Symbol}
-use Rattle.guest_words.specs.declared.elf_fault.ElfFault.{ElfFault}
-use Rattle.guest_words.specs.Image.{first_fault}
 use Rattle.edge_ports.specs.Shelves.{Shelved}
 use Rattle.program_words.specs.Kinds.{is_help, kind_named}
 use Rattle.program_words.specs.Ports.{first_bad_port}
@@ -33,7 +31,7 @@ use Rattle.rescue_run.specs.declared.task.Task.TheVariants as task
 use Rattle.rescue_run.specs.declared.outcome.Outcome.{Outcome}
 use Rattle.rescue_run.specs.declared.outcome.Outcome.TheVariants.{PortCount, Words, Memory}
 use Rattle.rescue_run.specs.declared.outcome.Which.TheVariants as which
-use Rattle.rescue_run.specs.Loading.{later_loads, points_load_if, Answers, Read}
+use Rattle.rescue_run.specs.Loading.{Answers}
 use Rattle.rescue_run.specs.Prepares.{AreAnswersFor, AuditsFiles, ListsFile, Prepares, PreparesCommand, PreparesCounted, StartsFiles}
 use Rattle.rescue_run.specs.Reads.{AreAnswers, IsAskedFor, IsOrMemory}
 use Rattle.rescue_run.specs.ReadsFiles.{ReadsFiles, ReadsSymbols}

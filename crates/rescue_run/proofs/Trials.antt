@@ -1,5 +1,5 @@
 -- How trials are prepared, and what their put comes to.
-use Rattle.std.proofs.Common.{◌≡◌, inl, inr, ℕ, List, [], ◌∷◌, ◌++◌, length, Option, Some, None, Result, Ok, Err, refl, ap, sym, ◌∙◌, subst}
+use Rattle.std.proofs.Common.{◌≡◌, inl, inr, ℕ, List, [], ◌∷◌, ◌++◌, Option, None, Result, Ok, Err, refl, ap, sym, ◌∙◌, subst}
 use Rattle.std.proofs.lemmas.List.{append_assoc}
 use Rattle.edge_ports.specs.Asked.{Asked, Loaded as Load'}
 use Rattle.edge_ports.specs.End.{End}
@@ -8,7 +8,7 @@ use Rattle.edge_ports.specs.declared.shelf.ShelfFault.{ShelfFault}
 use Rattle.edge_ports.specs.declared.shelf.ShelfFault.TheVariants as shelf
 use Rattle.elf_symbols.specs.declared.sym_fault.SymFault.{SymFault}
 use Rattle.elf_symbols.specs.declared.symbol.Symbol.{Symbol}
-use Rattle.elf_symbols.specs.SymbolTable.{first_symbol_fault, symbols_of}
+use Rattle.elf_symbols.specs.SymbolTable.{symbols_of}
 use Rattle.guest_words.specs.declared.elf_fault.ElfFault.{ElfFault}
 use Rattle.guest_words.specs.declared.ending.Ending.{Ending}
 use Rattle.guest_words.specs.declared.fault.Fault.{Fault as FaultAt}
@@ -20,7 +20,6 @@ use Rattle.trial_runs.specs.declared.tries.Tries.{Tries}
 use Rattle.trial_runs.specs.declared.tries.Tries.TheVariants as tries
 use Rattle.guest_words.specs.Word.{word_of}
 use Rattle.rescue_run.specs.declared.outcome.Outcome.{Outcome}
-use Rattle.rescue_run.specs.declared.outcome.Outcome.TheVariants.{Memory}
 use Rattle.rescue_run.specs.declared.outcome.Which.{Which}
 use Rattle.rescue_run.specs.declared.outcome.Which.TheVariants as which
 use Rattle.rescue_run.specs.declared.task.Task.{Task}

@@ -1,5 +1,5 @@
 -- How trials are prepared: a program, its symbols, and the input of its runs.
-use Rattle.std.specs.Prelude.{◌≡◌, ◌⊎◌, ℕ, ℤ, ◌≤◌, List, [], ◌∷◌, Result, Ok, Err}
+use Rattle.std.specs.Prelude.{◌≡◌, ◌⊎◌, ℕ, ◌≤◌, List, [], ◌∷◌, Result, Ok, Err}
 use Rattle.guest_words.specs.declared.image.Image.{Image}
 use Rattle.guest_words.specs.declared.limits.TheConstants.{BUDGET, HARTS}
 use Rattle.guest_words.specs.Image.{first_fault}

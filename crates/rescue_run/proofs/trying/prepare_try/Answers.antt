@@ -1,5 +1,3 @@
-use Rattle.std.proofs.Common.{subst}
-use Rattle.rescue_run.specs.Trying.{TriesProgram}
 use Rattle.rescue_run.proofs.Trials.{tries_loaded, tries_unread}
 use Rattle.rescue_run.proofs.trying.prepare_try.Goals as goal
 

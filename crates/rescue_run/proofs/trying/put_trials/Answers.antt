@@ -1,7 +1,7 @@
-use Rattle.std.proofs.Common.{◌≡◌, ℕ, ◌∙◌, List, length, subst}
+use Rattle.std.proofs.Common.{ℕ, ◌∙◌, List, subst}
 use Rattle.rescue_run.specs.Puts.{PutsOwn}
 use Rattle.rescue_run.specs.declared.outcome.Outcome.TheVariants.{Tried}
-use Rattle.rescue_trial.specs.TrialText.{good_of, trial_text_of}
+use Rattle.rescue_trial.specs.TrialText.{trial_text_of}
 use Rattle.rescue_run.proofs.trying.put_trials.Goals as goal
 
 pub returns-in-Ok : goal.returns-in-Ok
