@@ -109,9 +109,13 @@ check_without_faults() {
     compare_run "$name/$output"
 }
 
-# Tries each function on the way to the fault of this guest as its only rescue point.
+# Tries each function on the way to the fault of this guest as its only rescue point: by the command
+# itself, and one after the other under alone.
 check_tries() {
-    name=try/$1 way=tries
+    name=try/$1 way=try
+    timeout 120 "$rescue" try "try/$1" "try/$1-input" > "$came/tries"
+    compare "try/$1-tries" "$came/tries" tries
+    way=tries
     sed -n 's/^try [0-9a-f]* //p' "try/$1-tries" > "$came/expected"
     # shellcheck disable=SC2046 # names without spaces
     try/each.sh "$rescue" "try/$1" -1 $(cut -d ' ' -f 1 "$came/expected") < "try/$1-input" \

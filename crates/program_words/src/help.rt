@@ -20,6 +20,7 @@ options, as two words or as one with '=', each once:
                  5,000,000
   --seed N       chooses which hart is next, 0 to 18,446,744,073,709,551,615;
                  else 0
+  --returns=N    what try's points return, any signed 64-bit number; else -1
   --save FILE    keeps the history of the run in FILE, for audit
   --report FILE  puts the report into FILE
   IN:OUT         a port: the guest reads the file IN and writes the file OUT
@@ -32,7 +33,7 @@ exit status: the guest's exit code, where it ended by itself. Else
   67  a file is too long            75  no memory is left
   68  PROGRAM is refused            77  the history can't be saved
   69  its symbols are refused       78  audit: it is no such run
-  70  a fault under no point
+  70  a fault under no point           79  try: no fault is met
 
 example:
   rescue alone --points points.toml --seed 7 server < requests

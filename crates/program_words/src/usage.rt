@@ -64,7 +64,9 @@ pub const AUDIT_PURPOSE: &str =
 ";
 
 /// What `try` does.
-pub const TRY_PURPOSE: &str = "    Isn't made yet: this version refuses it.
+pub const TRY_PURPOSE: &str =
+    "    Runs PROGRAM without points. Where that ends by a fault, tries each function
+    on the way to it as the only point, and says which end with exit code 0.
 ";
 
 /// What the help does.

@@ -19,6 +19,7 @@ use Rattle.rescue_run.specs.declared.outcome.Outcome.TheVariants.{Memory}
 use Rattle.history_file.specs.declared.head.Head.{Head}
 use Rattle.history_file.specs.HistoryBytes.{history_bytes}
 use Rattle.rescue_run.specs.Audits.{IsAuditTold}
+use Rattle.rescue_run.specs.Tries.{IsTryTold}
 use Rattle.rescue_run.specs.Headline.{saved_bytes, AreDevices, ComesTo, Headline, IsLoadRun, IsRefused, IsRunOn, IsStill, ReportsRunOf, Told}
 use Rattle.rescue_run.specs.Hints.{refusal_text}
 use Rattle.rescue_run.specs.Lines.{line_of}
@@ -92,6 +93,11 @@ memory_comes words (Ok (task.List symbols)) handed s told is line still = record
 memory_comes words (Ok (task.Load load)) handed s told is line still = memory_load load handed s told is line still
 memory_comes words (Ok (task.Audit audit)) handed s told is line still = record {
   says = subst (λ o. IsAuditTold audit o s.sink s.sink') (sym is)
+      (subst (λ o. IsTold (line_of o) s.sink s.sink') is line);
+  still = still;
+}
+memory_comes words (Ok (task.Try t)) handed s told is line still = record {
+  says = subst (λ o. IsTryTold t o s.sink s.sink') (sym is)
       (subst (λ o. IsTold (line_of o) s.sink s.sink') is line);
   still = still;
 }

@@ -1,5 +1,5 @@
 -- The further files of an audit, as they are loaded one after the other.
-use Rattle.std.proofs.Common.{◌≡◌, ◌⊎◌, inl, inr, ℕ, zero, suc, ◌+◌, List, [], ◌∷◌, ◌++◌, map, length, take, drop, Option, Some, None, Result, Ok, Err, refl, ap, sym, ◌∙◌, subst, arith}
+use Rattle.std.proofs.Common.{◌≡◌, ◌⊎◌, inl, inr, ℕ, zero, suc, ◌+◌, List, [], ◌∷◌, ◌++◌, map, take, drop, Option, Some, None, Result, Ok, Err, refl, ap, sym, ◌∙◌, subst, arith}
 use Rattle.std.proofs.lemmas.List.{append_assoc, append-nil}
 use Rattle.edge_ports.specs.Asked.{Asked, Loaded as Load'}
 use Rattle.edge_ports.specs.Shelves.{Loads, Shelved}
@@ -23,7 +23,7 @@ use Rattle.rescue_run.specs.Loading.{loaded_of, loads_of_files, named_files, poi
 use Rattle.rescue_run.specs.Outcomes.{limit_of, of_shelf_fault}
 use Rattle.rescue_run.specs.Prepares.{AuditsFiles}
 use Rattle.rescue_run.specs.Reads.{AreAnswers, Follows, IsAnswer, IsAskedFor, IsOrMemory}
-use Rattle.rescue_run.specs.ReadsFiles.{further_bytes, port_bytes, ReadsAll, ReadsFiles, ReadsTo, StopsAmong}
+use Rattle.rescue_run.specs.ReadsFiles.{further_bytes, port_bytes, ReadsAll, ReadsFiles, StopsAmong}
 use Rattle.rescue_run.specs.Words.{further_of}
 use Rattle.rescue_run.proofs.Reading.{loads_at}
 use Rattle.rescue_run.proofs.Shelving.{answer_among, answers_both, answers_later, follows_both, follows_load, follows_same, no_answer, no_answers, none_answered, take_none}

@@ -16,7 +16,7 @@ use Rattle.program_words.specs.declared.command_kind.CommandKind.TheVariants as 
 use Rattle.program_words.specs.declared.word_fault.WordFault.TheVariants.{Line}
 use Rattle.rescue_run.specs.Loading.{loaded_from}
 use Rattle.rescue_run.specs.LoadStarts.{load_loaded, LoadStarts}
-use Rattle.rescue_run.specs.Words.{load_with, needs_threads, task_for}
+use Rattle.rescue_run.specs.Words.{load_with, needs_threads}
 
 -- what files give that are accepted as a load's
 loaded_from-accepted : (elf points : List ℕ) → AreAccepted elf points → loaded_from elf points ≡ Ok load_loaded

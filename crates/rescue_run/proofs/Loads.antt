@@ -14,8 +14,9 @@ use Rattle.run_history.specs.Counts.{records_of_all}
 use Rattle.rescue_run.specs.declared.outcome.Outcome.{Outcome}
 use Rattle.rescue_run.specs.declared.outcome.Outcome.TheVariants.{Words, PortCount, Shelf, TooLong, Elf, Symbols, Points, Report, Save, Ended, Listed, Audited, AuditNo, Tried, NoFault, Shown, Memory}
 use Rattle.rescue_run.specs.declared.task.LoadTask.{LoadTask}
-use Rattle.rescue_run.specs.Load.{load_devices, load_summary, out_of, IsLoadTo, IsSure}
+use Rattle.rescue_run.specs.Load.{load_summary, out_of, IsLoadTo, IsSure}
 use Rattle.rescue_run.specs.Puts.{PutsText, ReportsRun}
+use Rattle.trial_runs.specs.Subjects.{devices_with}
 use Rattle.rescue_run.specs.Runs.{outcome_of, start_of_run, IsRunTo}
 use Rattle.rescue_report.specs.Summary.{summary_of}
 use Rattle.rescue_run.proofs.Coming.{losing}
@@ -79,7 +80,7 @@ drop_none [] = refl
 drop_none (x ∷ xs) = refl
 
 pub out_given : (input : List ℕ) (devices : Seen) (entries : List Entry) (given : List ℕ)
-    → DevicesMatch (load_devices input) devices 0 (records_of_all entries) → devices.out.given ≡ Some given → given ≡ out_of entries
+    → DevicesMatch (devices_with input) devices 0 (records_of_all entries) → devices.out.given ≡ Some given → given ≡ out_of entries
 out_given input devices entries given matches told =
     let records : List Record = records_of_all entries in
     let came : Some given ≡ Some (flat_map given_bytes (records_at 1 (drop 0 records))) = sym told ∙ (matches.ends 1).given in
@@ -87,7 +88,7 @@ out_given input devices entries given matches told =
 
 -- a load's run, from what the run of its start gives on its devices
 pub load_ran : (load : LoadTask) (before now : Seen) (count : ℕ) (entries : List Entry) (points : List Point) (a b : Option Ending)
-    → before ≡ load_devices load.input → count ≡ 0 → IsRunTo (start_of_run load.start count) load.start.setup.schedule entries points (outcome_of a)
+    → before ≡ devices_with load.input → count ≡ 0 → IsRunTo (start_of_run load.start count) load.start.setup.schedule entries points (outcome_of a)
     → DevicesMatch before now 0 (records_of_all entries) → (b ≡ a) ⊎ (b ≡ None) → IsSure entries (outcome_of b)
     → IsLoadTo load entries points (outcome_of b)
 load_ran load before now count entries points a b own none run matches ending sure = record {
@@ -98,7 +99,7 @@ load_ran load before now count entries points a b own none run matches ending su
   sure = sure;
 }
 
-pub load_out : (input : List ℕ) (before now : Seen) (entries : List Entry) (given : List ℕ) → before ≡ load_devices input
+pub load_out : (input : List ℕ) (before now : Seen) (entries : List Entry) (given : List ℕ) → before ≡ devices_with input
     → DevicesMatch before now 0 (records_of_all entries) → now.out.given ≡ Some given → given ≡ out_of entries
 load_out input before now entries given own matches told =
     out_given input now entries given (subst (λ (d : Seen). DevicesMatch d now 0 (records_of_all entries)) own matches) told

@@ -1,16 +1,14 @@
 -- What is prepared for words, by what their reading, the number of the ports and the files give.
-use Rattle.std.proofs.Common.{◌≡◌, ◌⊎◌, inl, inr, ℕ, Bool, true, false, if◌then◌else◌, ◌==◌, List, [], ◌∷◌, ◌++◌, take, Option, Some, None, Result, Ok, Err, refl, ap, sym, ◌∙◌, subst, IfSome, IsTrue, ◌↔◌, is_some, slice_get, codes}
-use Rattle.std.specs.Prelude.{◌&&◌, not, unwrap_or, IfOk}
+use Rattle.std.proofs.Common.{◌≡◌, inl, inr, ℕ, Bool, true, false, if◌then◌else◌, ◌==◌, List, [], ◌∷◌, ◌++◌, Option, Some, None, Result, Ok, Err, refl, ap, sym, ◌∙◌, subst, IsTrue, ◌↔◌, is_some, slice_get, codes}
+use Rattle.std.specs.Prelude.{ℤ, unwrap_or, IfOk}
 use Rattle.std.specs.Str.{bytes_eq}
 use Rattle.std.proofs.lemmas.Bool.{both_ways}
 use Rattle.std.proofs.lemmas.Slice.Eq.{bytes_eq-Decides}
 use Rattle.std.specs.Result.{result_err, result_map_both}
 use Rattle.std.proofs.lemmas.List.{append-nil}
-use Rattle.edge_ports.specs.Asked.{Asked, Loaded as Load'}
+use Rattle.edge_ports.specs.Asked.{Asked}
 use Rattle.edge_ports.specs.declared.shelf.ShelfFault.TheVariants as shelf
 use Rattle.elf_symbols.specs.declared.symbol.Symbol.{Symbol}
-use Rattle.guest_words.specs.declared.elf_fault.ElfFault.{ElfFault}
-use Rattle.guest_words.specs.Image.{first_fault}
 use Rattle.edge_ports.specs.Shelves.{Shelved}
 use Rattle.program_words.specs.Kinds.{is_help, kind_named}
 use Rattle.program_words.specs.Ports.{first_bad_port}
@@ -33,11 +31,12 @@ use Rattle.rescue_run.specs.declared.task.Task.TheVariants as task
 use Rattle.rescue_run.specs.declared.outcome.Outcome.{Outcome}
 use Rattle.rescue_run.specs.declared.outcome.Outcome.TheVariants.{PortCount, Words, Memory}
 use Rattle.rescue_run.specs.declared.outcome.Which.TheVariants as which
-use Rattle.rescue_run.specs.Loading.{later_loads, points_load_if, Answers, Read}
+use Rattle.rescue_run.specs.Loading.{Answers}
 use Rattle.rescue_run.specs.Prepares.{AreAnswersFor, AuditsFiles, ListsFile, Prepares, PreparesCommand, PreparesCounted, StartsFiles}
 use Rattle.rescue_run.specs.Reads.{AreAnswers, IsAskedFor, IsOrMemory}
 use Rattle.rescue_run.specs.ReadsFiles.{ReadsFiles, ReadsSymbols}
 use Rattle.rescue_run.specs.Tasks.{runs_threads, CanStart}
+use Rattle.rescue_run.specs.Trying.{TriesFiles}
 use Rattle.rescue_run.specs.Words.{files_of, lacks_threads, loads_by, loads_for, loads_read, needs_threads, ports_named, run_with, task_by, task_read, list_with}
 use Rattle.rescue_run.proofs.Shelving.{answer_among, follows_same, none_answered, no_answers, take_none, two_answers}
 
@@ -183,6 +182,17 @@ prepares_audit points history program input out err ports old new r a = record {
   value = a.value;
 }
 
+-- trials
+pub prepares_try : (harts budget seed : ℕ) (returns : ℤ) (program input : List ℕ) (old new : Shelved) (r : Result Task Outcome)
+    → TriesFiles (record { harts = harts; budget = budget; seed = seed; returns = returns }) program input old new r
+    → PreparesCommand (command.Try harts budget seed returns program input) old new r
+prepares_try harts budget seed returns program input old new r t = record {
+  answers = t.answers;
+  answered = t.answered;
+  asked = t.asked;
+  value = t.value;
+}
+
 -- a command for which no file is asked, and which is refused
 pub prepares_unknown : (c : Command) (s : Shelved) (outcome : Outcome) → task_by c no_answers ≡ Err outcome → loads_by c no_answers ≡ []
     → PreparesCommand c s s (Err outcome)
@@ -284,6 +294,7 @@ start_on a b (task.Run start) on can = record { loads = can.loads; within = can.
 start_on a b (task.List symbols) on can = tt
 start_on a b (task.Load load) on can = can
 start_on a b (task.Audit audit) on can = can
+start_on a b (task.Try t) on can = can
 
 pub can_start : (threads : Bool) (words : List (List ℕ)) (c : Command) (r : Result Task Outcome) → lacks_threads threads words ≡ false
     → command_of words ≡ Ok c → IfOk r (CanStart (runs_threads c)) → IfOk r (CanStart threads)

@@ -1,10 +1,10 @@
 -- Answers of a shelf, and shelves after loads.
-use Rattle.std.proofs.Common.{◌≡◌, ℕ, ◌≤◌, false, List, [], ◌∷◌, ◌++◌, length, take, Option, Some, None, Result, Ok, Err, refl, ap, sym, ◌∙◌, subst, IfSome, IsTrue, arith}
+use Rattle.std.proofs.Common.{◌≡◌, ℕ, ◌≤◌, false, List, [], ◌∷◌, ◌++◌, length, take, Option, Some, None, Ok, Err, refl, ap, sym, ◌∙◌, subst, IfSome, IsTrue, arith}
 use Rattle.std.specs.Prelude.{option_map, IfOk}
 use Rattle.std.proofs.lemmas.Bool.{both_ways}
 use Rattle.edge_ports.specs.End.{raised}
 use Rattle.edge_ports.specs.Shelves.{is_failed, is_long, Loads, Shelved}
-use Rattle.edge_ports.specs.declared.shelf.ShelfFault.TheVariants.{Failed, TooLong, Memory}
+use Rattle.edge_ports.specs.declared.shelf.ShelfFault.TheVariants.{Memory}
 use Rattle.rescue_run.specs.declared.files.Files.{Files}
 use Rattle.rescue_run.specs.declared.outcome.Which.{Which}
 use Rattle.rescue_run.specs.declared.outcome.Which.TheVariants as which

@@ -1,5 +1,5 @@
 -- What an audit says, by its outcome, and the line that is put.
-use Rattle.std.specs.Prelude.{◌≡◌, List, None}
+use Rattle.std.specs.Prelude.{List, None}
 use Rattle.edge_ports.specs.End.{End, Came}
 use Rattle.rescue_audit.specs.AuditLines.{no_line, yes_line}
 use Rattle.rescue_audit.specs.Verdict.{IsAudited, IsNo}

@@ -1,6 +1,6 @@
 -- The further files of an audit, behind the program and the rescue file: the history, and those of
 -- the devices. None of them is refused for its bytes.
-use Rattle.std.specs.Prelude.{ℕ, ◌+◌, List, [], ◌∷◌, ◌++◌, Option, Some, None, Result, Ok, Err}
+use Rattle.std.specs.Prelude.{ℕ, ◌+◌, List, [], ◌∷◌, Option, Some, None, Result, Ok, Err}
 use Rattle.edge_ports.specs.Asked.{Asked, Loaded as Load'}
 use Rattle.program_words.specs.declared.port_name.PortName.{PortName}
 use Rattle.rescue_audit.specs.declared.files.AuditFiles.{AuditFiles}

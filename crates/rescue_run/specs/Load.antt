@@ -1,42 +1,20 @@
 -- The run of a load, on devices of its own, and its summary.
-use Rattle.std.specs.Prelude.{◌≡◌, ℕ, Bool, false, List, [], ◌∷◌, Option, Some, None, length}
-use Rattle.std.specs.List.{flat_map, list_any}
-use Rattle.std.specs.Ordering.{int_eq}
+use Rattle.std.specs.Prelude.{◌≡◌, ℕ, false, List, Option, Some, None, length}
+use Rattle.std.specs.List.{flat_map}
 use Rattle.guest_words.specs.declared.ending.Ending.{Ending}
-use Rattle.guest_words.specs.declared.linux.TheConstants.{EIO}
 use Rattle.guest_words.specs.declared.point.Point.{Point}
-use Rattle.guest_words.specs.declared.record.Record.{Record}
 use Rattle.edge_ports.specs.DevicesMatch.{records_at, DevicesMatch}
-use Rattle.edge_ports.specs.End.{End}
-use Rattle.edge_ports.specs.InMemory.{sure_end}
 use Rattle.edge_ports.specs.Records.{given_bytes}
 use Rattle.edge_ports.specs.Seen.{Seen}
 use Rattle.run_history.specs.declared.entry.Entry.{Entry}
 use Rattle.run_history.specs.Counts.{records_of_all}
 use Rattle.rescue_report.specs.Summary.{summary_of}
+use Rattle.trial_runs.specs.Failures.{has_failed}
+use Rattle.trial_runs.specs.Subjects.{devices_with}
 use Rattle.rescue_run.specs.declared.task.LoadTask.{LoadTask}
 use Rattle.rescue_run.specs.declared.outcome.Outcome.{Outcome}
 use Rattle.rescue_run.specs.declared.outcome.Outcome.TheVariants.{Memory}
 use Rattle.rescue_run.specs.Runs.{start_of_run, IsRunTo}
-
--- a sink that tells, and was given nothing
-abbrev pub empty_sink : End
-empty_sink = record { left = None; given = Some []; faults = 0; closes = 0 }
-
--- the devices of a load: its input, two such sinks, and no port
-abbrev pub load_devices : List ℕ → Seen
-load_devices input = record {
-  input = sure_end input;
-  out = empty_sink;
-  err = empty_sink;
-  ports = [];
-  closed = false ∷ false ∷ false ∷ [];
-  shut = [];
-}
-
--- a device failed in one of these calls
-abbrev pub has_failed : List Record → Bool
-has_failed records = list_any (λ r. int_eq r.answer EIO) records
 
 -- the bytes that were written to the output
 abbrev pub out_of : List Entry → List ℕ
@@ -58,7 +36,7 @@ pub record IsLoadTo (load : LoadTask) (entries : List Entry) (points : List Poin
   pub runs : IsRunTo (start_of_run load.start 0) load.start.setup.schedule entries points
       outcome
   pub devices : Seen
-  pub matches : DevicesMatch (load_devices load.input) devices 0 (records_of_all entries)
+  pub matches : DevicesMatch (devices_with load.input) devices 0 (records_of_all entries)
   pub sure : IsSure entries outcome
 
 -- the load ran so, or memory was wanting before it was started

@@ -1,5 +1,5 @@
 -- What a shelf's answers rest on.
-use Rattle.std.specs.Prelude.{◌≡◌, ◌⊎◌, ℕ, ◌<◌, ◌≤◌, All, List, [], ◌∷◌, ◌++◌, length, take, Option, Some, option_map, Result, Err, IsTrue, IfOk}
+use Rattle.std.specs.Prelude.{◌≡◌, ◌⊎◌, ℕ, ◌<◌, ◌≤◌, All, List, [], ◌∷◌, ◌++◌, length, take, Some, option_map, Result, Err, IsTrue, IfOk}
 use Rattle.edge_ports.specs.Asked.{Asked}
 use Rattle.edge_ports.specs.End.{Rose}
 use Rattle.edge_ports.specs.Shelves.{Shelved}

@@ -17,7 +17,7 @@ use Rattle.rescue_run.specs.declared.outcome.Outcome.{Outcome}
 use Rattle.rescue_run.specs.declared.outcome.Outcome.TheVariants.{Elf, Symbols, Memory}
 use Rattle.rescue_run.specs.Outcomes.{limit_of, of_shelf_fault}
 use Rattle.rescue_run.specs.Loading.{image_of, listed_by, loaded_of, loads_of_files, named_files, points_read, with_points, Answers, NamedFile, Read}
-use Rattle.rescue_run.specs.Reads.{AreAnswers, Follows, IsAskedFor, IsOrMemory}
+use Rattle.rescue_run.specs.Reads.{AreAnswers, IsAskedFor, IsOrMemory}
 
 -- the rule that a program breaks first, or want of memory
 pub record BreaksElf (program : List ℕ) (outcome : Outcome) : Type 0 where

@@ -8,6 +8,7 @@ use Rattle.rescue_run.specs.declared.setup.Schedule.TheVariants.{Lone, Workers}
 use Rattle.rescue_run.specs.declared.start.Start.{Start}
 use Rattle.rescue_run.specs.declared.task.Task.{Task}
 use Rattle.rescue_run.specs.declared.task.Task.TheVariants as task
+use Rattle.trial_runs.specs.Subjects.{CanTry}
 use Rattle.rescue_run.specs.Words.{IsWithin}
 
 -- workers are threads
@@ -32,3 +33,4 @@ CanStart threads (task.Run start) = CanRun threads start
 CanStart threads (task.List symbols) = Unit {0}
 CanStart threads (task.Load load) = CanRun false load.start
 CanStart threads (task.Audit audit) = IsLoadList audit.loaded.image.loads
+CanStart threads (task.Try t) = CanTry t.subject

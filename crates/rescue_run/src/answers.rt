@@ -10,7 +10,7 @@ ghost use Rattle.history_file.specs.Spelled.{IsHead};
 ghost use Rattle.machine_core.specs.Machine.{AllOpen};
 ghost use Rattle.rescue_report.specs.Report.{report_of};
 ghost use Rattle.rescue_report.specs.Summary.{summary_of};
-ghost use Rattle.rescue_run.specs.Headline.{IsAudit, IsListing, IsLoadRun, IsRunOn};
+ghost use Rattle.rescue_run.specs.Headline.{AreTrialsRun, IsAudit, IsListing, IsLoadRun, IsRunOn};
 ghost use Rattle.program_words.specs.Words.{texts};
 ghost use Rattle.rescue_run.specs.Hints.{refusal_text};
 ghost use Rattle.rescue_run.specs.Lines.{line_of};
@@ -21,6 +21,7 @@ ghost use Rattle.rescue_run.specs.Statuses.{status_of};
 ghost use Rattle.rescue_run.specs.Tasks.{CanRun};
 ghost use Rattle.rescue_run.specs.Top.{sides, told, RunsOn, StaySame};
 ghost use Rattle.rescue_run.specs.declared.outcome.Outcome.{Outcome};
+ghost use Rattle.trial_runs.specs.Subjects.{CanTry};
 
 use crate::answer::Answer;
 use crate::audit::put_audit;
@@ -32,7 +33,8 @@ use crate::run::{Ran, run};
 use crate::save::save_behind;
 use crate::shared::run_on_threads;
 use crate::start::Start;
-use crate::task::{AuditTask, LoadTask};
+use crate::task::{AuditTask, LoadTask, TryTask};
+use crate::trying::put_try;
 use edge_ports::{Devices, Port, Shelf, Sink, Source};
 use guest_words::Name;
 use history_file::Head;
@@ -128,6 +130,23 @@ pub fn answer_audit<S: Source, T: Sink, P: Port, R: Sink>(
     ensures same { StaySame result.history devices result.devices }
 {
     let outcome = put_audit(alloc, report, task);
+    still(outcome, devices)
+}
+
+/// The answer of trials: what they come to is put.
+pub fn answer_try<S: Source, T: Sink, P: Port, R: Sink>(
+    alloc: Global,
+    task: &TryTask,
+    devices: Devices<S, T, P>,
+    report: &mut R,
+) -> Answer<S, T, P>
+    requires can { CanTry task.now.subject }
+    ensures trials { (s : Shelved) → AreTrialsRun task.now (seen S.end T.end P.end devices)
+        (sides s s (R.end report.old) (R.end report.new)) (told S.end T.end P.end result) }
+    ensures status { result.status ≡ status_of result.outcome }
+    ensures same { StaySame result.history devices result.devices }
+{
+    let outcome = put_try(alloc, report, task);
     still(outcome, devices)
 }
 

@@ -4,7 +4,6 @@
 mod answer;
 mod answers;
 mod audit;
-mod failures;
 mod file_ports;
 mod files;
 mod further;
@@ -27,6 +26,7 @@ mod start;
 mod system;
 mod task;
 mod tops;
+mod trying;
 
 pub use answer::Answer;
 pub use outcome::{Outcome, Which};

@@ -6,14 +6,14 @@ ghost use Rattle.load_maker.specs.File.{load_file};
 ghost use Rattle.load_maker.specs.Program.{points_file};
 ghost use Rattle.machine_core.specs.Machine.{AllOpen};
 ghost use Rattle.program_words.specs.declared.limits.TheConstants.{LOADS};
-ghost use Rattle.rescue_run.specs.Load.{load_devices, out_of, IsLoadTo, IsSure};
+ghost use Rattle.rescue_run.specs.Load.{out_of, IsLoadTo, IsSure};
 ghost use Rattle.rescue_run.specs.Loading.{loaded_from};
 ghost use Rattle.rescue_run.specs.Reads.{IsOrMemory};
 ghost use Rattle.rescue_run.specs.Runs.{outcome_of};
 ghost use Rattle.rescue_run.specs.Tasks.{CanRun, CanStart};
 ghost use Rattle.rescue_run.specs.Words.{load_setup, load_with};
+ghost use Rattle.trial_runs.specs.Subjects.{devices_with};
 
-use crate::failures::any_failed;
 use crate::loading::loaded_from;
 use crate::outcome::Outcome;
 use crate::run::{Ran, run};
@@ -25,6 +25,7 @@ use guest_words::limits::BUDGET;
 use guest_words::{Bytes, MemoryWant};
 use load_maker::{Made, make};
 use std::alloc::Global;
+use trial_runs::any_failed;
 
 /// How many slots for harts a load has.
 const LOAD_HARTS: u8 = 4;
@@ -78,7 +79,7 @@ pub fn prepare_load(alloc: Global, number: u64) -> Result<Task, Outcome>
 
 fn own_devices(alloc: Global, input: Bytes) -> Result<OwnDevices, MemoryWant>
     ensures told { IfOk result
-        (λ devices. seen sure_end sink_end port_end devices ≡ load_devices input) }
+        (λ devices. seen sure_end sink_end port_end devices ≡ devices_with input) }
     ensures open { IfOk result (λ devices. AllOpen (seen sure_end sink_end port_end devices)) }
     ensures ports { IfOk result (λ devices. devices.ports.items ≡ []) }
 {

@@ -15,6 +15,7 @@ use crate::outcome::Outcome;
 use crate::setup::{Schedule, Setup};
 use crate::start::Start;
 use crate::task::{AuditTask, Task};
+use crate::trying::{TrySetup, prepare_try};
 use edge_ports::Shelf;
 use guest_words::Name;
 use program_words::{Command, WordFault, WordsFault, needs_threads, read_words};
@@ -174,7 +175,22 @@ fn prepare_command<F: Shelf>(
             };
             prepare_audit(alloc, Files { program, points }, &names, shelf)
         }
-        Command::Try { .. } => Err(Outcome::Words(WordFault::UnknownCommand)),
+        Command::Try {
+            harts,
+            budget,
+            seed,
+            returns,
+            program,
+            input,
+        } => {
+            let setup = TrySetup {
+                harts,
+                budget,
+                seed,
+                returns,
+            };
+            prepare_try(alloc, setup, &program, &input, shelf)
+        }
         Command::Help => Err(Outcome::Words(WordFault::UnknownCommand)),
         Command::Version => Err(Outcome::Words(WordFault::UnknownCommand)),
     }

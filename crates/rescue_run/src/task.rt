@@ -2,6 +2,7 @@ use crate::listing::Listing;
 use crate::start::{Loaded, Start};
 use guest_words::Bytes;
 use rescue_audit::AuditFiles;
+use trial_runs::Subject;
 
 /// The load of a number, which runs on devices of its own.
 #[derive(Drop)]
@@ -19,6 +20,14 @@ pub struct AuditTask {
     pub files: AuditFiles,
 }
 
+/// A program without points and its input, and what the points return that are tried on it.
+#[derive(Drop)]
+pub struct TryTask {
+    pub listing: Listing,
+    pub subject: Subject,
+    pub returns: i64,
+}
+
 /// What a command asks for that nothing refuses.
 #[derive(Drop)]
 pub enum Task {
@@ -30,4 +39,6 @@ pub enum Task {
     Load(LoadTask),
     /// To audit a history, and to put what that says.
     Audit(AuditTask),
+    /// To try points on a program, and to put what each comes to.
+    Try(TryTask),
 }

@@ -10,7 +10,7 @@ ghost use Rattle.rescue_run.specs.Top.{handed, sides, told, StaySame};
 
 use crate::answer::Answer;
 use crate::answers::{
-    answer_audit, answer_list, answer_load, answer_refused, answer_run, answer_run_on_threads,
+    answer_audit, answer_list, answer_load, answer_refused, answer_run, answer_run_on_threads, answer_try,
 };
 use crate::outcome::Outcome;
 use crate::prepare::prepare;
@@ -67,6 +67,7 @@ fn answer<F: Shelf, S: Source, T: Sink, P: Port, R: Sink>(
         Ok(Task::List(listing)) => answer_list(alloc, &listing, devices, report),
         Ok(Task::Load(load)) => answer_load(alloc, load, devices, report),
         Ok(Task::Audit(task)) => answer_audit(alloc, &task, devices, report),
+        Ok(Task::Try(task)) => answer_try(alloc, &task, devices, report),
         Err(outcome) => answer_refused(alloc, words, outcome, devices, report),
     }
 }
@@ -105,14 +106,16 @@ pub fn answer_on_threads<
         Ok(Task::List(listing)) => answer_list(alloc, &listing, devices, report),
         Ok(Task::Load(load)) => answer_load(alloc, load, devices, report),
         Ok(Task::Audit(task)) => answer_audit(alloc, &task, devices, report),
+        Ok(Task::Try(task)) => answer_try(alloc, &task, devices, report),
         Err(outcome) => answer_refused(alloc, words, outcome, devices, report),
     }
 }
 
 /// Does what the words of a command ask for: runs a program to its end, and puts the report; lists
-/// the symbols of a program; runs a load on devices of its own, and puts its summary; or audits a
-/// saved history, and puts what that says. All this on one thread: a command that needs more is
-/// refused. The history of a run is saved behind its report, where the words name a file for it.
+/// the symbols of a program; runs a load on devices of its own, and puts its summary; audits a saved
+/// history, and puts what that says; or tries points on a program, and puts what each comes to. All
+/// this on one thread: a command that needs more is refused. The history of a run is saved behind
+/// its report, where the words name a file for it.
 ///
 /// Where nothing is done, or a run doesn't end, the report sink is given one line instead. A
 /// failure of that put changes nothing in the answer. `ports` are the devices from descriptor 3 on,

@@ -47,3 +47,5 @@ mod server;
 mod stretches;
 #[cfg(test)]
 mod threads;
+#[cfg(test)]
+mod tries;

@@ -1,9 +1,13 @@
-use Rattle.std.proofs.Common.{ap, sym, subst}
+use Rattle.std.proofs.Common.{ap, sym, subst, rules, SFits}
+use Rattle.std.specs.Prelude.{ℤ}
+use mir.Syntax.{w64}
+use Rattle.std.proofs.lemmas.Int.{to_z-of_z}
 use Rattle.rescue_run.specs.Prepares.{PreparesCommand}
-use Rattle.rescue_run.proofs.Preparing.{prepares_audit, prepares_list, prepares_load, prepares_unknown}
+use Rattle.rescue_run.proofs.Preparing.{prepares_audit, prepares_list, prepares_load, prepares_try, prepares_unknown}
 use Rattle.rescue_run.proofs.Shelving.{no_answers}
 use Rattle.program_words.specs.declared.word_fault.WordFault.TheVariants.{UnknownCommand}
 use Rattle.rescue_run.specs.declared.outcome.Outcome.TheVariants.{Words}
+use Rattle.rescue_run.specs.Trying.{TriesFiles}
 use Rattle.rescue_run.specs.Words.{loads_by, task_by}
 use Rattle.rescue_run.proofs.prepare.prepare_command.Goals as goal
 
@@ -30,15 +34,21 @@ returns-in-Audit-clause-prepares g c =
 
 pub returns-in-Try-clause-prepares : goal.returns-in-Try-clause-prepares
 returns-in-Try-clause-prepares g c =
-    prepares_unknown c.args.command (g.F.Shelf.seen c.args.shelf.now) (Words UnknownCommand)
-    (ap (λ k. task_by k no_answers) c.in-Try.is) (ap (λ k. loads_by k no_answers) c.in-Try.is)
+    let old = g.F.Shelf.seen c.args.shelf.now in
+    let new = g.F.Shelf.seen c.prepare_try.new.shelf in
+    let t = c.in-Try in
+    let signed : SFits w64 t.returns = search rules in
+    let tries = subst (λ (r : ℤ). TriesFiles (record { harts = t.harts; budget = t.budget; seed = t.seed; returns = r }) t.program t.input old new c.prepare_try.result)
+    (to_z-of_z w64 t.returns signed) c.prepare_try.ensures.tries in
+    subst (λ k. PreparesCommand k old new c.prepare_try.result) (sym t.is)
+    (prepares_try t.harts t.budget t.seed t.returns t.program t.input old new c.prepare_try.result tries)
 
 pub returns-in-Help-clause-prepares : goal.returns-in-Help-clause-prepares
 returns-in-Help-clause-prepares g c =
     prepares_unknown c.args.command (g.F.Shelf.seen c.args.shelf.now) (Words UnknownCommand)
     (ap (λ k. task_by k no_answers) c.in-Help.is) (ap (λ k. loads_by k no_answers) c.in-Help.is)
 
-pub returns-clause-prepares : goal.returns-clause-prepares
-returns-clause-prepares g c =
+pub returns-in-Version-clause-prepares : goal.returns-in-Version-clause-prepares
+returns-in-Version-clause-prepares g c =
     prepares_unknown c.args.command (g.F.Shelf.seen c.args.shelf.now) (Words UnknownCommand)
     (ap (λ k. task_by k no_answers) c.in-Version.is) (ap (λ k. loads_by k no_answers) c.in-Version.is)
