@@ -61,9 +61,12 @@ class Outcome:
         return REPORT.match(self.err, at) if at >= 0 else None
 
     def refusal(self):
-        """The line of a refusal that is all that came on standard error, or None."""
-        line, feed, rest = self.err.partition(b"\n")
-        return line if line.startswith(b"refused: ") and feed and not rest else None
+        """The first line of a refusal that is all that came on standard error, or None. The lines
+        that explain it begin with two spaces."""
+        line, *further = self.err.splitlines(keepends=True) or [b""]
+        explained = all(hint.startswith(b"  ") and hint.endswith(b"\n") for hint in further)
+        whole = line.startswith(b"refused: ") and line.endswith(b"\n") and explained
+        return line[:-1] if whole else None
 
 
 class Hung(Exception):

@@ -90,8 +90,8 @@ def file_faults(rescue):
         if line is None:
             good = came.status == 7 and came.report()
         else:
-            wanted = f"refused: {line}\n".encode()
-            good = came == outcome.Outcome(STATUSES[line.split()[0]], b"", wanted)
+            refused = came.refusal() == f"refused: {line}".encode()
+            good = refused and (came.status, came.out) == (STATUSES[line.split()[0]], b"")
         if not good:
             yield f"file {number}: {came.status} {came.err!r} in place of {line}"
 

@@ -21,6 +21,7 @@ use Rattle.history_file.specs.HistoryBytes.{history_bytes}
 use Rattle.rescue_run.specs.Audits.{IsAuditTold}
 use Rattle.rescue_run.specs.Tries.{IsTryTold}
 use Rattle.rescue_run.specs.Headline.{saved_bytes, AreDevices, ComesTo, Headline, IsLoadRun, IsRefused, IsRunOn, IsStill, ReportsRunOf, Told}
+use Rattle.rescue_run.specs.Hints.{refusal_text}
 use Rattle.rescue_run.specs.Lines.{line_of}
 use Rattle.rescue_run.specs.Load.{load_summary, IsLoadTo, RunsLoad}
 use Rattle.rescue_run.specs.Prepares.{Prepares}
@@ -75,38 +76,43 @@ memory_load load handed s told is line still = record {
   shelf = still.shelf;
 }
 
-memory_comes : (r : Result Task Outcome) (handed : Seen) (s : Sides) (told : Told) → told.outcome ≡ Memory
-    → IsTold (line_of told.outcome) s.sink s.sink' → IsStill handed s told → ComesTo r handed s told
-memory_comes (Err refusal) handed s told is line still = record { outcome = inr is; line = line; still = still }
-memory_comes (Ok (task.Run start)) handed s told is line still = memory_run start handed s told is line still
-memory_comes (Ok (task.List symbols)) handed s told is line still = record {
+memory_comes : (words : List (List ℕ)) (r : Result Task Outcome) (handed : Seen) (s : Sides) (told : Told) → told.outcome ≡ Memory
+    → IsTold (line_of told.outcome) s.sink s.sink' → IsStill handed s told → ComesTo words r handed s told
+memory_comes words (Err refusal) handed s told is line still = record {
+  outcome = inr is;
+  text = subst (λ o. IsTold (refusal_text words o) s.sink s.sink') (sym is)
+      (subst (λ o. IsTold (line_of o) s.sink s.sink') is line);
+  still = still;
+}
+memory_comes words (Ok (task.Run start)) handed s told is line still = memory_run start handed s told is line still
+memory_comes words (Ok (task.List symbols)) handed s told is line still = record {
   lists = subst (λ o. PutsList symbols o s.sink s.sink') (sym is)
       (subst (λ o. IsTold (line_of o) s.sink s.sink') is line);
   still = still;
 }
-memory_comes (Ok (task.Load load)) handed s told is line still = memory_load load handed s told is line still
-memory_comes (Ok (task.Audit audit)) handed s told is line still = record {
+memory_comes words (Ok (task.Load load)) handed s told is line still = memory_load load handed s told is line still
+memory_comes words (Ok (task.Audit audit)) handed s told is line still = record {
   says = subst (λ o. IsAuditTold audit o s.sink s.sink') (sym is)
       (subst (λ o. IsTold (line_of o) s.sink s.sink') is line);
   still = still;
 }
-memory_comes (Ok (task.Try t)) handed s told is line still = record {
+memory_comes words (Ok (task.Try t)) handed s told is line still = record {
   says = subst (λ o. IsTryTold t o s.sink s.sink') (sym is)
       (subst (λ o. IsTold (line_of o) s.sink s.sink') is line);
   still = still;
 }
 
 -- the machine of a run, or of a load, wasn't started
-pub wanting_run : (start : Start) (handed devices : Seen) (shelf : Shelved) (sink sink' : End) (outcome : Outcome) → devices ≡ handed → IsSaid Memory outcome
-    → IsTold (line_of outcome) sink sink' → IsRunOn start handed (sides shelf shelf sink sink') (still_told outcome devices)
-wanting_run start handed devices shelf sink sink' outcome same said line =
-    memory_run start handed (sides shelf shelf sink sink') (still_told outcome devices) (said_memory outcome said) line
+pub wanting_run : (start : Start) (handed devices : Seen) (shelf : Shelved) (sink sink' : End) → devices ≡ handed
+    → IsTold (line_of Memory) sink sink' → IsRunOn start handed (sides shelf shelf sink sink') (still_told Memory devices)
+wanting_run start handed devices shelf sink sink' same line =
+    memory_run start handed (sides shelf shelf sink sink') (still_told Memory devices) refl line
     (record { history = refl; points = refl; devices = same; shelf = refl })
 
-pub wanting_load : (load : LoadTask) (handed : Seen) (shelf : Shelved) (sink sink' : End) (outcome : Outcome) → IsSaid Memory outcome → IsTold (line_of outcome) sink sink'
-    → IsLoadRun load handed (sides shelf shelf sink sink') (still_told outcome handed)
-wanting_load load handed shelf sink sink' outcome said line =
-    memory_load load handed (sides shelf shelf sink sink') (still_told outcome handed) (said_memory outcome said) line
+pub wanting_load : (load : LoadTask) (handed : Seen) (shelf : Shelved) (sink sink' : End) → IsTold (line_of Memory) sink sink'
+    → IsLoadRun load handed (sides shelf shelf sink sink') (still_told Memory handed)
+wanting_load load handed shelf sink sink' line =
+    memory_load load handed (sides shelf shelf sink sink') (still_told Memory handed) refl line
     (record { history = refl; points = refl; devices = refl; shelf = refl })
 
 -- a machine was started
@@ -149,27 +155,29 @@ load_run_told load handed shelf sink sink' entries points ending outcome run put
 
 -- what was prepared is what the words ask for, or want of memory
 
-refused_memory : (prepared : Result Task Outcome) (handed : Seen) (s : Sides) (told : Told) → prepared ≡ Err Memory
-    → ComesTo prepared handed s told → IsRefused Memory handed s told
-refused_memory prepared handed s told is comes = subst (λ r. ComesTo r handed s told) is comes
+refused_memory : (words : List (List ℕ)) (prepared : Result Task Outcome) (handed : Seen) (s : Sides) (told : Told) → prepared ≡ Err Memory
+    → ComesTo words prepared handed s told → IsRefused words Memory handed s told
+refused_memory words prepared handed s told is comes = subst (λ r. ComesTo words r handed s told) is comes
 
-comes_for : (r prepared : Result Task Outcome) (handed : Seen) (s : Sides) (told : Told) → IsOrMemory prepared r
-    → ComesTo prepared handed s told → ComesTo r handed s told
-comes_for r prepared handed s told (inl is) comes = subst (λ x. ComesTo x handed s told) is comes
-comes_for r prepared handed s told (inr is) comes =
-    let refused = refused_memory prepared handed s told is comes in
-    memory_comes r handed s told (said_memory told.outcome refused.outcome) refused.line refused.still
+comes_for : (words : List (List ℕ)) (r prepared : Result Task Outcome) (handed : Seen) (s : Sides) (told : Told) → IsOrMemory prepared r
+    → ComesTo words prepared handed s told → ComesTo words r handed s told
+comes_for words r prepared handed s told (inl is) comes = subst (λ x. ComesTo words x handed s told) is comes
+comes_for words r prepared handed s told (inr is) comes =
+    let refused = refused_memory words prepared handed s told is comes in
+    let memory = said_memory told.outcome refused.outcome in
+    memory_comes words r handed s told memory (subst (λ o. IsTold (line_of o) s.sink s.sink') (sym memory)
+    (subst (λ o. IsTold (refusal_text words o) s.sink s.sink') memory refused.text)) refused.still
 
-asked_for : (prepared : Result Task Outcome) (handed : Seen) (s : Sides) (told : Told) (old new loads : List Asked)
-    → IsAskedFor (prepared ≡ Err Memory) old new loads → ComesTo prepared handed s told → IsAskedFor (told.outcome ≡ Memory) old new loads
-asked_for prepared handed s told old new loads (inl is) comes = inl is
-asked_for prepared handed s told old new loads (inr wants) comes =
-    inr (said_memory told.outcome (refused_memory prepared handed s told wants.0 comes).outcome, wants.1)
+asked_for : (words : List (List ℕ)) (prepared : Result Task Outcome) (handed : Seen) (s : Sides) (told : Told) (old new loads : List Asked)
+    → IsAskedFor (prepared ≡ Err Memory) old new loads → ComesTo words prepared handed s told → IsAskedFor (told.outcome ≡ Memory) old new loads
+asked_for words prepared handed s told old new loads (inl is) comes = inl is
+asked_for words prepared handed s told old new loads (inr wants) comes =
+    inr (said_memory told.outcome (refused_memory words prepared handed s told wants.0 comes).outcome, wants.1)
 
 pub headline_of : (threads : Bool) (words : List (List ℕ)) (old between new : Shelved) (before handed : Seen) (sink sink' : End) (ports : ℕ)
     (prepared : Result Task Outcome) (told : Told) → before ≡ handed → ports ≡ length before.ports
     → Prepares threads words ports old between prepared → Follows old between → told.status ≡ status_of told.outcome
-    → ComesTo prepared before (sides between new sink sink') told → Headline threads words old new handed sink sink' told
+    → ComesTo words prepared before (sides between new sink sink') told → Headline threads words old new handed sink sink' told
 headline_of threads words old between new before handed sink sink' ports prepared told same count prepares follows status comes =
     let p : Prepares threads words (length before.ports) old between prepared =
     subst (λ n. Prepares threads words n old between prepared) count prepares in
@@ -179,8 +187,8 @@ headline_of threads words old between new before handed sink sink' ports prepare
       answers = p.answers;
       between = between;
       answered = p.answered;
-      asked = asked_for prepared before s told old.asked between.asked (loads_for threads words (length before.ports) p.answers) p.asked comes;
+      asked = asked_for words prepared before s told old.asked between.asked (loads_for threads words (length before.ports) p.answers) p.asked comes;
       follows = follows;
-      comes = comes_for (task_for threads words (length before.ports) p.answers) prepared before s told p.value comes;
+      comes = comes_for words (task_for threads words (length before.ports) p.answers) prepared before s told p.value comes;
       status = status;
     })

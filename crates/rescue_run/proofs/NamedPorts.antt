@@ -29,7 +29,7 @@ pub headline_by : {S T P N : Type 0} (source : S → End) (sink : T → End) (po
     (threads : Bool) (words : List (List ℕ)) (old between new : Shelved) (before : Seen) (report report' : End) (count : ℕ)
     (prepared : Result Task Outcome) (told : Told) → before ≡ handed source sink port input out err ports → map port ports ≡ map name names → count ≡ length names
     → Prepares threads words count old between prepared → Follows old between → told.status ≡ status_of told.outcome
-    → ComesTo prepared before (sides between new report report') told
+    → ComesTo words prepared before (sides between new report report') told
     → Headline threads words old new (handed source sink name input out err names) report report' told
 headline_by source sink port name input out err ports names threads words old between new before report report' count prepared told same ends counts prepares follows status comes =
     let whole : before ≡ handed source sink name input out err names = same ∙ handed_by source sink port name input out err ports names ends in

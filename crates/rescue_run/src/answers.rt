@@ -11,6 +11,8 @@ ghost use Rattle.machine_core.specs.Machine.{AllOpen};
 ghost use Rattle.rescue_report.specs.Report.{report_of};
 ghost use Rattle.rescue_report.specs.Summary.{summary_of};
 ghost use Rattle.rescue_run.specs.Headline.{AreTrialsRun, IsAudit, IsListing, IsLoadRun, IsRunOn};
+ghost use Rattle.program_words.specs.Words.{texts};
+ghost use Rattle.rescue_run.specs.Hints.{refusal_text};
 ghost use Rattle.rescue_run.specs.Lines.{line_of};
 ghost use Rattle.rescue_run.specs.Puts.{IsSaid, IsTold, PutsText};
 ghost use Rattle.rescue_run.specs.Runs.{head_of};
@@ -26,7 +28,7 @@ use crate::audit::put_audit;
 use crate::listing::Listing;
 use crate::load::{LoadRan, run_load};
 use crate::outcome::Outcome;
-use crate::put::{put_line, put_report, put_summary, put_symbols};
+use crate::put::{put_memory, put_refusal, put_report, put_summary, put_symbols};
 use crate::run::{Ran, run};
 use crate::save::save_behind;
 use crate::shared::run_on_threads;
@@ -60,15 +62,17 @@ fn still<S, T, P>(outcome: Outcome, devices: Devices<S, T, P>) -> Answer<S, T, P
     }
 }
 
-/// The answer of a command that nothing is done for: its line is put.
-pub fn answer_with_line<S, T, P, R: Sink>(
+/// The answer of a command that nothing is done for: why is put.
+pub fn answer_refused<S, T, P, R: Sink>(
     alloc: Global,
+    words: &[String],
     outcome: Outcome,
     devices: Devices<S, T, P>,
     report: &mut R,
 ) -> Answer<S, T, P>
     ensures said { IsSaid outcome result.outcome }
-    ensures line { IsTold (line_of result.outcome) (R.end report.old) (R.end report.new) }
+    ensures text { IsTold (refusal_text (texts words.now) result.outcome) (R.end report.old)
+        (R.end report.new) }
     ensures answer { result ≡ record {
       status = status_of result.outcome;
       outcome = result.outcome;
@@ -77,7 +81,22 @@ pub fn answer_with_line<S, T, P, R: Sink>(
       points = None;
     } }
 {
-    let outcome = put_line(alloc, report, outcome);
+    let outcome = put_refusal(alloc, report, words, outcome);
+    still(outcome, devices)
+}
+
+/// The answer where memory was wanting before a machine was started: that is put.
+fn answer_wanting<S, T, P, R: Sink>(devices: Devices<S, T, P>, report: &mut R) -> Answer<S, T, P>
+    ensures line { IsTold (line_of Outcome.Memory) (R.end report.old) (R.end report.new) }
+    ensures answer { result ≡ record {
+      status = status_of Outcome.Memory;
+      outcome = Outcome.Memory;
+      devices = devices;
+      history = None;
+      points = None;
+    } }
+{
+    let outcome = put_memory(report);
     still(outcome, devices)
 }
 
@@ -192,7 +211,7 @@ fn answer_of_run<F: Shelf, S: Source, T: Sink, P: Port, R: Sink>(
         → StaySame result.history devices result.devices }
 {
     match ran {
-        Err(devices) => answer_with_line(alloc, Outcome::Memory, devices, report),
+        Err(devices) => answer_wanting(devices, report),
         Ok(ran) => answer_of_ran(alloc, &start.save, head, ran, report, shelf),
     }
 }
@@ -309,7 +328,7 @@ pub fn answer_load<S: Source, T: Sink, P: Port, R: Sink>(
     let number = load.number;
     let bytes = load.input.items().len() as u64;
     match run_load(alloc, load) {
-        Err(_) => answer_with_line(alloc, Outcome::Memory, devices, report),
+        Err(_) => answer_wanting(devices, report),
         Ok(ran) => answer_of_load(alloc, number, bytes, ran, devices, report),
     }
 }

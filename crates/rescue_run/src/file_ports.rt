@@ -90,5 +90,5 @@ pub fn top_on_files<
     let prepared = prepare(alloc, true, words, name_count(names), shelf);
     let ports = file_ports(files_for(files, &prepared), names, room);
     let devices = connect(input, out, err, ports);
-    answer_on_threads(rt, alloc, prepared, devices, report, shelf, door)
+    answer_on_threads(rt, alloc, words, prepared, devices, report, shelf, door)
 }

@@ -2,12 +2,14 @@
 use crate::file_ports::top_on_files;
 use crate::outcome::Outcome;
 use crate::put::put_line;
-use edge_ports::{FileShelf, Sink, Standard, StdSink, StdSource};
-use guest_words::Name;
+use crate::shown::quoted;
+use edge_ports::{FileShelf, Reason, Sink, Standard, StdSink, StdSource};
+use guest_words::{MemoryWant, Name};
 use program_words::{
     Command, PortNames, WordFault, WordsFault, help_text, port_names, read_words, report_file,
     report_to_out, version_text,
 };
+use std::alloc::Global;
 use std::fs::File;
 use std::io::{ErrorKind, Write};
 use std::process::ExitCode;
@@ -70,11 +72,27 @@ fn run_reported<H: Threads + Wait + Sync>(
 ) -> ExitCode {
     match File::create(rt, name.items()) {
         Ok(file) => run_words(host, rt, words, file),
-        Err(_) => {
-            let _ = StdSink::new(rt.stderr()).put(b"refused: report unwritable\n");
+        Err(error) => {
+            let mut sink = StdSink::new(rt.stderr());
+            let _ = sink.put(b"refused: report unwritable\n");
+            if let Ok(hint) = unmade(rt.alloc(), name, &error) {
+                let _ = sink.put(hint.as_bytes());
+            }
             ExitCode::from(UNWRITTEN)
         }
     }
+}
+
+/// Why the file of a name can't be made.
+fn unmade(alloc: Global, name: &Name, error: &io::Error) -> Result<String, MemoryWant> {
+    let name = quoted(alloc, name.items())?;
+    let why = match error.kind() {
+        ErrorKind::NotFound => "no such folder",
+        ErrorKind::PermissionDenied => Reason::Denied.text(),
+        ErrorKind::IsADirectory => Reason::Folder.text(),
+        _ => Reason::Other.text(),
+    };
+    Ok(format!(in alloc; "  {name}: {why}\n")?)
 }
 
 /// Does what [`run_program`] does. All that the command tells goes to `report`.
@@ -124,10 +142,15 @@ fn report_of(rt: &HostRuntime, words: &[String]) -> Standard {
     }
 }
 
-/// Puts the line of an outcome, and answers its exit status.
+/// Puts the line of an outcome, and that a word isn't a text, where that is why; and answers its
+/// exit status.
 fn refuse<W: Write + Drop>(rt: &HostRuntime, report: W, outcome: Outcome) -> ExitCode {
     let mut report = StdSink::new(report);
-    ExitCode::from(put_line(rt.alloc(), &mut report, outcome).status())
+    let outcome = put_line(rt.alloc(), &mut report, outcome);
+    if let Outcome::Words(_) = outcome {
+        let _ = report.put(b"  a word isn't a text in UTF-8\n");
+    }
+    ExitCode::from(outcome.status())
 }
 
 /// Does what the words of a command ask for. The ports are those that the words name, and none

@@ -10,8 +10,7 @@ ghost use Rattle.rescue_run.specs.Top.{handed, sides, told, StaySame};
 
 use crate::answer::Answer;
 use crate::answers::{
-    answer_audit, answer_list, answer_load, answer_run, answer_run_on_threads, answer_try,
-    answer_with_line,
+    answer_audit, answer_list, answer_load, answer_refused, answer_run, answer_run_on_threads, answer_try,
 };
 use crate::outcome::Outcome;
 use crate::prepare::prepare;
@@ -49,6 +48,7 @@ pub fn connect<S: Source, T: Sink, P: Port>(
 /// Does what was prepared, on one thread, or puts why nothing is done.
 fn answer<F: Shelf, S: Source, T: Sink, P: Port, R: Sink>(
     alloc: Global,
+    words: &[String],
     prepared: Result<Task, Outcome>,
     devices: Devices<S, T, P>,
     report: &mut R,
@@ -56,7 +56,7 @@ fn answer<F: Shelf, S: Source, T: Sink, P: Port, R: Sink>(
 ) -> Answer<S, T, P>
     requires can { IfOk prepared (CanStart false) }
     requires open { AllOpen (seen S.end T.end P.end devices) }
-    ensures comes { ComesTo prepared (seen S.end T.end P.end devices)
+    ensures comes { ComesTo (texts words.now) prepared (seen S.end T.end P.end devices)
         (sides (F.seen shelf.old) (F.seen shelf.new) (R.end report.old) (R.end report.new))
         (told S.end T.end P.end result) }
     ensures status { result.status ≡ status_of result.outcome }
@@ -68,7 +68,7 @@ fn answer<F: Shelf, S: Source, T: Sink, P: Port, R: Sink>(
         Ok(Task::Load(load)) => answer_load(alloc, load, devices, report),
         Ok(Task::Audit(task)) => answer_audit(alloc, &task, devices, report),
         Ok(Task::Try(task)) => answer_try(alloc, &task, devices, report),
-        Err(outcome) => answer_with_line(alloc, outcome, devices, report),
+        Err(outcome) => answer_refused(alloc, words, outcome, devices, report),
     }
 }
 
@@ -84,6 +84,7 @@ pub fn answer_on_threads<
 >(
     rt: &H,
     alloc: Global,
+    words: &[String],
     prepared: Result<Task, Outcome>,
     devices: Devices<S, T, P>,
     report: &mut R,
@@ -92,7 +93,7 @@ pub fn answer_on_threads<
 ) -> Answer<S, T, P>
     requires can { IfOk prepared (CanStart true) }
     requires open { AllOpen (seen S.end T.end P.end devices) }
-    ensures comes { ComesTo prepared (seen S.end T.end P.end devices)
+    ensures comes { ComesTo (texts words.now) prepared (seen S.end T.end P.end devices)
         (sides (F.seen shelf.old) (F.seen shelf.new) (R.end report.old) (R.end report.new))
         (told S.end T.end P.end result) }
     ensures status { result.status ≡ status_of result.outcome }
@@ -106,7 +107,7 @@ pub fn answer_on_threads<
         Ok(Task::Load(load)) => answer_load(alloc, load, devices, report),
         Ok(Task::Audit(task)) => answer_audit(alloc, &task, devices, report),
         Ok(Task::Try(task)) => answer_try(alloc, &task, devices, report),
-        Err(outcome) => answer_with_line(alloc, outcome, devices, report),
+        Err(outcome) => answer_refused(alloc, words, outcome, devices, report),
     }
 }
 
@@ -141,7 +142,7 @@ pub fn alone_top<F: Shelf, S: Source, T: Sink, R: Sink>(
 {
     let devices = connect(input, out, err, ports);
     let prepared = prepare(alloc, false, words, port_count(&devices), shelf);
-    answer(alloc, prepared, devices, report, shelf)
+    answer(alloc, words, prepared, devices, report, shelf)
 }
 
 /// Does what [`alone_top`] does, where there are threads: a command on threads runs a program by a
@@ -170,5 +171,5 @@ pub fn top<H: Threads + Wait + Sync, F: Shelf, S: Source + Send, T: Sink + Send,
 {
     let devices = connect(input, out, err, ports);
     let prepared = prepare(alloc, true, words, port_count(&devices), shelf);
-    answer_on_threads(rt, alloc, prepared, devices, report, shelf, door)
+    answer_on_threads(rt, alloc, words, prepared, devices, report, shelf, door)
 }
