@@ -10,7 +10,8 @@ ghost use Rattle.rescue_run.specs.Top.{handed, sides, told, StaySame};
 
 use crate::answer::Answer;
 use crate::answers::{
-    answer_audit, answer_list, answer_load, answer_refused, answer_run, answer_run_on_threads, answer_try,
+    answer_audit, answer_list, answer_load, answer_refused, answer_run, answer_run_on_threads,
+    answer_try,
 };
 use crate::outcome::Outcome;
 use crate::prepare::prepare;
@@ -46,7 +47,7 @@ pub fn connect<S: Source, T: Sink, P: Port>(
 }
 
 /// Does what was prepared, on one thread, or puts why nothing is done.
-fn answer<F: Shelf, S: Source, T: Sink, P: Port, R: Sink>(
+pub fn answer<F: Shelf, S: Source, T: Sink, P: Port, R: Sink>(
     alloc: Global,
     words: &[String],
     prepared: Result<Task, Outcome>,
