@@ -7,7 +7,7 @@ use Rattle.edge_ports.specs.End.{End}
 use Rattle.edge_ports.specs.Seen.{Seen}
 use Rattle.edge_ports.specs.Shelves.{Shelved}
 use Rattle.rescue_run.specs.declared.task.Task.{Task}
-use Rattle.rescue_run.specs.declared.outcome.Outcome.{Outcome}
+use Rattle.rescue_run.specs.declared.refusal.Refusal.{Refusal}
 use Rattle.rescue_run.specs.Headline.{ComesTo, Headline, Told}
 use Rattle.rescue_run.specs.Prepares.{Prepares}
 use Rattle.rescue_run.specs.Reads.{Follows}
@@ -30,7 +30,7 @@ handed_by source sink port name input out err ports names same = ap (λ (ends : 
 
 pub headline_by : {S T P N : Type 0} (source : S → End) (sink : T → End) (port : P → End) (name : N → End) (input : S) (out err : T) (ports : List P) (names : List N)
     (threads : Bool) (words : List (List ℕ)) (old between new : Shelved) (before : Seen) (report report' : End) (count : ℕ)
-    (prepared : Result Task Outcome) (told : Told) → before ≡ handed source sink port input out err ports → map port ports ≡ map name names → count ≡ length names
+    (prepared : Result Task Refusal) (told : Told) → before ≡ handed source sink port input out err ports → map port ports ≡ map name names → count ≡ length names
     → Prepares threads words count old between prepared → Follows old between → told.status ≡ status_of told.outcome
     → ComesTo words prepared before (sides between new report report') told
     → Headline threads words old new (handed source sink name input out err names) report report' told

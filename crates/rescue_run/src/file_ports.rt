@@ -7,8 +7,8 @@ ghost use Rattle.rescue_run.specs.Headline.{Headline};
 ghost use Rattle.rescue_run.specs.Top.{handed, told};
 
 use crate::answer::Answer;
-use crate::outcome::Outcome;
 use crate::prepare::prepare;
+use crate::refusal::Refusal;
 use crate::task::Task;
 use crate::tops::{answer, answer_on_threads, connect};
 use edge_ports::{FilePort, Shelf, Sink, Source};
@@ -48,7 +48,7 @@ fn file_ports<X: Read + Write + Drop, R: Files<File = X>>(
 }
 
 /// The system's files, where a program is run on the devices that are handed in.
-fn files_for<'a, R: Files>(files: &'a R, prepared: &Result<Task, Outcome>) -> Option<&'a R> {
+fn files_for<'a, R: Files>(files: &'a R, prepared: &Result<Task, Refusal>) -> Option<&'a R> {
     match prepared {
         Ok(Task::Run(_)) => Some(files),
         _ => None,
