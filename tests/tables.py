@@ -137,6 +137,7 @@ def told_faults(rescue):
         yield "the report fails: another status, or other bytes at the ports"
     for words, text in [(["--points", "points", "nowhere"], b"refused: program unreadable\n"),
                         (["--points", "nowhere", "server"], b"refused: points unreadable\n")]:
+        text += b"  'nowhere': no such file\n"
         came = outcome.run(rescue, ["alone", *words, "a:b", "c:d"])
         if came != outcome.Outcome(66, b"", text) or (read("b"), read("d")) != (b"K", b"E"):
             yield f"{text!r}: {came.status} {came.err!r}"
