@@ -1,6 +1,6 @@
 #!/usr/bin/env python3
-"""Stands for `rescue alone` in the tests of the sweep: it takes the same words, and writes a report
-as the program does. Its guest adds numbers up, a request a line; `bad` is a fault, `leak` one that
+"""Stands for `rescue alone` and `rescue try` in the tests of the sweep: it takes the same words, and
+writes a report, or trials, as the program does. Its guest adds numbers up, a request a line; `bad` is a fault, `leak` one that
 leaves something in the sum, `say` one behind a write, `wait` is stuck, `spin` spends the budget,
 `sleep` takes long."""
 
@@ -8,6 +8,19 @@ import sys
 import time
 
 FAULTS = ("bad", "leak", "say")
+
+
+def tries() -> int:
+    """What points on the way to the first fault come to."""
+    with open(sys.argv[-1], encoding="ascii") as file:
+        if not set(file.read().split()) & set(FAULTS):
+            print("end exit 0")
+            return 79
+    print("try-report 1", "fault load-rights hart 0 pc 0000000000010600",
+          "try 00000000000104a8 handle end exit 0 rescues 1",
+          "try 00000000000104a9 nobody end exit 255 rescues 1",
+          "good 00000000000104a8 handle", "count 1", sep="\n")
+    return 0
 
 
 def main() -> None:
@@ -36,4 +49,6 @@ def main() -> None:
           f"end {end}", sep="\n", file=sys.stderr)
 
 
+if sys.argv[1] == "try":
+    sys.exit(tries())
 main()

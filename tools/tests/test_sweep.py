@@ -57,6 +57,15 @@ def test_it_tells_what_became_of_each(
     assert shown.split("\n", 1)[1].split()[0] == "leak" and "4" not in shown.split()[-2:]
 
 
+def test_it_takes_the_functions_on_the_way_to_a_fault(
+    words: list[str], tmp_path: Path, capsys: pytest.CaptureFixture[str]
+) -> None:
+    at = words.index("--point")
+    assert main([*words[:at], "--try", *words[at + 2:], "--alone", "--shrink", "0"]) == 0
+    told = capsys.readouterr().out
+    assert "handle = -1" in told and "0x104a9 = -1" in told and found(tmp_path / "csv") == WANTED
+
+
 def test_it_goes_on_where_it_was(words: list[str], tmp_path: Path) -> None:
     path = os.pathsep.join(["src", "tests"])
     process = subprocess.Popen(

@@ -1,4 +1,5 @@
-"""Runs `rescue alone` as a process of its own, with a time limit, and reads its report."""
+"""Runs `rescue alone` or `rescue try` as a process of its own, with a time limit, and reads what it
+tells."""
 
 from __future__ import annotations
 
@@ -10,10 +11,14 @@ import threading
 from dataclasses import dataclass, field
 from pathlib import Path
 
+from .refusal import RefusalError
+
 REPORT = re.compile(
     rb"rescue-report 1\nsteps (\d+)\nrecords (\d+)\nrescues (\d+)\n"
     rb"((?:rescue [^\n]*\n)*)((?:spent [^\n]*\n)*)end ([^\n]*)\n\Z"
 )
+TRIES = re.compile(rb"^try ([0-9a-f]{16}) (.*) end [^\n]* rescues \d+$", re.MULTILINE)
+NO_FAULT = 79
 STAYING = re.compile(rb"rescue depth 0 [^\n]* records [1-9]\d* ")
 
 
@@ -105,6 +110,29 @@ def run_once(setting: Setting, points: str | None, given: bytes, seed: int) -> O
             if path.exists():
                 outputs.append(path.read_bytes())
     return outcome_of(b"".join(outputs), came.stderr)
+
+
+def on_the_way(setting: Setting, given: bytes, seed: int) -> list[tuple[int, str]]:
+    """The functions on the way to the fault that a run without points meets, the innermost first,
+    by entry and name; none where it meets no fault."""
+    with tempfile.TemporaryDirectory(prefix="rescue-sweep-") as name:
+        folder = Path(name)
+        (folder / "guest").write_bytes(setting.guest)
+        (folder / "input").write_bytes(given)
+        words = [setting.rescue, "try", "--seed", str(seed), "--harts", str(setting.harts),
+                 "--budget", str(setting.budget), "guest", "input"]
+        try:
+            came = subprocess.run(words, cwd=folder, capture_output=True, check=False,
+                                  timeout=66 * setting.seconds, stdin=subprocess.DEVNULL)
+        except subprocess.TimeoutExpired as error:
+            raise RefusalError("rescue try: the time limit was met") from error
+        except OSError as error:
+            raise RefusalError(f"{setting.rescue}: {error.strerror}") from error
+    if came.returncode not in (0, NO_FAULT):
+        lines = (came.stdout + came.stderr).decode("utf-8", "replace").strip().splitlines()
+        raise RefusalError(f"rescue try: {lines[0] if lines else f'status {came.returncode}'}")
+    return [(int(entry, 16), name.decode("utf-8", "replace"))
+            for entry, name in TRIES.findall(came.stdout)]
 
 
 def outcome_of(output: bytes, errors: bytes) -> Outcome:

@@ -22,9 +22,9 @@ from rich.table import Table
 from .judge import Case, Comparison, Result, Verdict, judge, shortest
 from .points import Code, Point, file_of, read_points
 from .pools import Work, on_cluster, on_this_machine
-from .program import read_program
+from .program import Program, read_program
 from .refusal import RefusalError, guarded, read_bytes, write_text
-from .runs import Runner, Setting
+from .runs import Runner, Setting, on_the_way
 from .store import Key, Store
 from .sweep_page import Shortest, sweep_page
 
@@ -242,16 +242,37 @@ def _plan(asked: argparse.Namespace) -> Plan:
         asked.over_port, tuple(read_bytes(path, "port file") for path in asked.port))
     instead = None if asked.instead is None else asked.instead.encode() + b"\n"
     comparison = Comparison(asked.any_order, asked.ignore, instead)
-    return Plan(setting, comparison, _rescue_files(points, asked), _inputs(asked), asked.seeds)
+    inputs = _inputs(asked)
+    if asked.tried:
+        points += _tried(asked, setting, program, inputs, points)
+    return Plan(setting, comparison, _rescue_files(points, asked), inputs, asked.seeds)
 
 
 def _candidates(asked: argparse.Namespace) -> list[Point]:
     """The points of the file, and those that are named beside it."""
     points = [] if asked.points is None else read_points(asked.points)
     points += [Point(name, None, -1) for name in asked.point]
-    if not points:
-        raise RefusalError("no points: give '--points FILE', '--point FUNCTION' or both")
+    if not points and not asked.tried:
+        raise RefusalError("no points: give '--points FILE', '--point FUNCTION' or '--try'")
     return points
+
+
+def _tried(asked: argparse.Namespace, setting: Setting, program: Program, inputs: list[Input],
+           points: list[Point]) -> list[Point]:
+    """The functions on the way to the faults of the inputs, beside these points."""
+    if asked.over_port or asked.port:
+        raise RefusalError("--try gives a guest standard input alone, and no port")
+    known = {point.address(program) for point in points}
+    made: list[Point] = []
+    for given in inputs:
+        for entry, name in on_the_way(setting, b"".join(given.lines), asked.seeds[0]):
+            if entry not in known:
+                known.add(entry)
+                named = program.named(name) == entry
+                made.append(Point(name, None, -1) if named else Point(None, entry, -1))
+    if not made and not points:
+        raise RefusalError("--try: no input ends by a fault")
+    return made
 
 
 def _rescue_files(points: list[Point], asked: argparse.Namespace) -> dict[str, str]:
@@ -320,6 +341,8 @@ def _parser() -> argparse.ArgumentParser:
                       "points is tried alone, and all of them together")
     what.add_argument("--point", action="append", default=[], metavar="FUNCTION",
                       help="one more point, which returns -1")
+    what.add_argument("--try", dest="tried", action="store_true", help="also each function on the "
+                      "way to a fault that an input meets, as 'rescue try' finds them")
     what.add_argument("--code", action="append", default=[], type=_code, metavar="CODE",
                       help="a code to try in place of the file's; a number or 'void'")
     what.add_argument("--alone", action="store_true", help="not all points together")
