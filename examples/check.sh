@@ -113,6 +113,7 @@ check_without_faults() {
 # itself, and one after the other under alone.
 check_tries() {
     name=try/$1 way=try
+    echo "try, $1"
     timeout 120 "$rescue" try "try/$1" "try/$1-input" > "$came/tries"
     compare "try/$1-tries" "$came/tries" tries
     way=tries

@@ -135,9 +135,9 @@ def told_faults(rescue):
     line = f"{rescue} alone --points points server a:b c:d 2> /dev/full"
     if os.waitstatus_to_exitcode(os.system(line)) != 74 or (read("b"), read("d")) != (b"K", b"E"):
         yield "the report fails: another status, or other bytes at the ports"
-    for words, kind in [(["--points", "points", "nowhere"], "program"),
-                        (["--points", "nowhere", "server"], "points")]:
-        text = f"refused: {kind} unreadable\n  'nowhere': no such file\n".encode()
+    for words, text in [(["--points", "points", "nowhere"], b"refused: program unreadable\n"),
+                        (["--points", "nowhere", "server"], b"refused: points unreadable\n")]:
+        text += b"  'nowhere': no such file\n"
         came = outcome.run(rescue, ["alone", *words, "a:b", "c:d"])
         if came != outcome.Outcome(66, b"", text) or (read("b"), read("d")) != (b"K", b"E"):
             yield f"{text!r}: {came.status} {came.err!r}"

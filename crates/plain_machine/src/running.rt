@@ -48,11 +48,16 @@ impl Plain {
 
     /// Makes an ordinary act, where the hart can go on by one, and answers whether it was made. The
     /// hart is in a slot; where no slot is, it can't go on.
+    #[tactic(auto, unfolding(run_history::specs::Legal::can_run, run_history::specs::After::ran))]
     pub fn go(&mut self, alloc: Global, hart: u8) -> Result<bool, MemoryWant>
         ensures value { IfOk result (λ is. is ≡ can_go self.old hart) }
         ensures after { IfOk result (λ is. is ≡ true → self.new ≡ next self.old hart) }
         ensures same { IfOk result (λ is. is ≡ false → self.new ≡ self.old) }
     {
+        // A row of one does where the act can't want memory.
+        if self.run(alloc, hart, 1) > 0 {
+            return Ok(true);
+        }
         if self.is_budget_spent() || !self.is_ready(hart) {
             return Ok(false);
         }

@@ -14,6 +14,7 @@ use Rattle.rescue_run.specs.declared.start.Start.{Start}
 use Rattle.rescue_run.specs.declared.task.LoadTask.{LoadTask}
 use Rattle.rescue_run.specs.declared.task.Task.{Task}
 use Rattle.rescue_run.specs.declared.task.Task.TheVariants as task
+use Rattle.rescue_run.specs.declared.refusal.Refusal.{Refusal}
 use Rattle.rescue_run.specs.declared.outcome.Outcome.{Outcome}
 use Rattle.rescue_run.specs.declared.outcome.Outcome.TheVariants.{Memory}
 use Rattle.history_file.specs.declared.head.Head.{Head}
@@ -34,6 +35,7 @@ use Rattle.rescue_run.specs.Statuses.{status_of}
 use Rattle.rescue_run.specs.Words.{loads_for, task_for}
 use Rattle.rescue_run.proofs.Loads.{load_told}
 use Rattle.rescue_run.proofs.Saving.{saved_of}
+use Rattle.rescue_run.specs.Refusals.{wanting}
 
 -- what is told where no machine was started
 abbrev still_told : Outcome → Seen → Told
@@ -76,11 +78,11 @@ memory_load load handed s told is line still = record {
   shelf = still.shelf;
 }
 
-memory_comes : (words : List (List ℕ)) (r : Result Task Outcome) (handed : Seen) (s : Sides) (told : Told) → told.outcome ≡ Memory
+memory_comes : (words : List (List ℕ)) (r : Result Task Refusal) (handed : Seen) (s : Sides) (told : Told) → told.outcome ≡ Memory
     → IsTold (line_of told.outcome) s.sink s.sink' → IsStill handed s told → ComesTo words r handed s told
 memory_comes words (Err refusal) handed s told is line still = record {
   outcome = inr is;
-  text = subst (λ o. IsTold (refusal_text words o) s.sink s.sink') (sym is)
+  text = subst (λ o. IsTold (refusal_text words refusal.lines o) s.sink s.sink') (sym is)
       (subst (λ o. IsTold (line_of o) s.sink s.sink') is line);
   still = still;
 }
@@ -155,27 +157,27 @@ load_run_told load handed shelf sink sink' entries points ending outcome run put
 
 -- what was prepared is what the words ask for, or want of memory
 
-refused_memory : (words : List (List ℕ)) (prepared : Result Task Outcome) (handed : Seen) (s : Sides) (told : Told) → prepared ≡ Err Memory
-    → ComesTo words prepared handed s told → IsRefused words Memory handed s told
+refused_memory : (words : List (List ℕ)) (prepared : Result Task Refusal) (handed : Seen) (s : Sides) (told : Told) → prepared ≡ Err wanting
+    → ComesTo words prepared handed s told → IsRefused words wanting handed s told
 refused_memory words prepared handed s told is comes = subst (λ r. ComesTo words r handed s told) is comes
 
-comes_for : (words : List (List ℕ)) (r prepared : Result Task Outcome) (handed : Seen) (s : Sides) (told : Told) → IsOrMemory prepared r
+comes_for : (words : List (List ℕ)) (r prepared : Result Task Refusal) (handed : Seen) (s : Sides) (told : Told) → IsOrMemory prepared r
     → ComesTo words prepared handed s told → ComesTo words r handed s told
 comes_for words r prepared handed s told (inl is) comes = subst (λ x. ComesTo words x handed s told) is comes
 comes_for words r prepared handed s told (inr is) comes =
     let refused = refused_memory words prepared handed s told is comes in
     let memory = said_memory told.outcome refused.outcome in
     memory_comes words r handed s told memory (subst (λ o. IsTold (line_of o) s.sink s.sink') (sym memory)
-    (subst (λ o. IsTold (refusal_text words o) s.sink s.sink') memory refused.text)) refused.still
+    (subst (λ o. IsTold (refusal_text words None o) s.sink s.sink') memory refused.text)) refused.still
 
-asked_for : (words : List (List ℕ)) (prepared : Result Task Outcome) (handed : Seen) (s : Sides) (told : Told) (old new loads : List Asked)
-    → IsAskedFor (prepared ≡ Err Memory) old new loads → ComesTo words prepared handed s told → IsAskedFor (told.outcome ≡ Memory) old new loads
+asked_for : (words : List (List ℕ)) (prepared : Result Task Refusal) (handed : Seen) (s : Sides) (told : Told) (old new loads : List Asked)
+    → IsAskedFor (prepared ≡ Err wanting) old new loads → ComesTo words prepared handed s told → IsAskedFor (told.outcome ≡ Memory) old new loads
 asked_for words prepared handed s told old new loads (inl is) comes = inl is
 asked_for words prepared handed s told old new loads (inr wants) comes =
     inr (said_memory told.outcome (refused_memory words prepared handed s told wants.0 comes).outcome, wants.1)
 
 pub headline_of : (threads : Bool) (words : List (List ℕ)) (old between new : Shelved) (before handed : Seen) (sink sink' : End) (ports : ℕ)
-    (prepared : Result Task Outcome) (told : Told) → before ≡ handed → ports ≡ length before.ports
+    (prepared : Result Task Refusal) (told : Told) → before ≡ handed → ports ≡ length before.ports
     → Prepares threads words ports old between prepared → Follows old between → told.status ≡ status_of told.outcome
     → ComesTo words prepared before (sides between new sink sink') told → Headline threads words old new handed sink sink' told
 headline_of threads words old between new before handed sink sink' ports prepared told same count prepares follows status comes =

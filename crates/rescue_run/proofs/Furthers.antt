@@ -11,8 +11,7 @@ use Rattle.rescue_audit.specs.declared.files.PortFile.{PortFile}
 use Rattle.rescue_run.specs.declared.files.Files.{Files}
 use Rattle.rescue_run.specs.declared.further.Further.{Further}
 use Rattle.rescue_run.specs.declared.further.FurtherNames.{FurtherNames}
-use Rattle.rescue_run.specs.declared.outcome.Outcome.{Outcome}
-use Rattle.rescue_run.specs.declared.outcome.Outcome.TheVariants.{Memory}
+use Rattle.rescue_run.specs.declared.refusal.Refusal.{Refusal}
 use Rattle.rescue_run.specs.declared.outcome.Which.{Which}
 use Rattle.rescue_run.specs.declared.outcome.Which.TheVariants as which
 use Rattle.rescue_run.specs.declared.start.Loaded.{Loaded}
@@ -27,6 +26,7 @@ use Rattle.rescue_run.specs.ReadsFiles.{further_bytes, port_bytes, ReadsAll, Rea
 use Rattle.rescue_run.specs.Words.{further_of}
 use Rattle.rescue_run.proofs.Reading.{loads_at}
 use Rattle.rescue_run.proofs.Shelving.{answer_among, answers_both, answers_later, follows_both, follows_load, follows_same, no_answer, no_answers, none_answered, take_none}
+use Rattle.rescue_run.specs.Refusals.{wanting}
 
 -- one file is loaded, and then others
 
@@ -34,9 +34,9 @@ pub read_one : (w : Which) (name : List ℕ) (old new : Shelved) (name' : List �
     → Loads old new name' limit (Ok bytes) → ReadsAll ((w, name) ∷ []) old new (bytes ∷ [])
 read_one w name old new name' limit bytes is same loads = (new, (loads_at old new name' name limit (limit_of w) (Ok bytes) is same loads, refl))
 
-pub stop_one : (w : Which) (name : List ℕ) (old new : Shelved) (name' : List ℕ) (limit : ℕ) (fault : ShelfFault) (outcome : Outcome) → name' ≡ name
-    → limit ≡ limit_of w → outcome ≡ of_shelf_fault w fault → Loads old new name' limit (Err fault) → StopsAmong ((w, name) ∷ []) old new outcome
-stop_one w name old new name' limit fault outcome is same names loads =
+pub stop_one : (w : Which) (name : List ℕ) (old new : Shelved) (name' : List ℕ) (limit : ℕ) (fault : ShelfFault) (refusal : Refusal) → name' ≡ name
+    → limit ≡ limit_of w → refusal ≡ of_shelf_fault w fault → Loads old new name' limit (Err fault) → StopsAmong ((w, name) ∷ []) old new refusal
+stop_one w name old new name' limit fault refusal is same names loads =
     inl (record { fault = fault; loads = loads_at old new name' name limit (limit_of w) (Err fault) is same loads; names = names })
 
 pub reads_both : (files more : List NamedFile) (old mid new : Shelved) (bs cs : List (List ℕ)) → ReadsAll files old mid bs → ReadsAll more mid new cs
@@ -46,18 +46,18 @@ reads_both [] more old mid new (b ∷ bs) cs r q = absurd r
 reads_both (f ∷ files) more old mid new [] cs r q = absurd r
 reads_both (f ∷ files) more old mid new (b ∷ bs) cs r q = (r.0, (r.1.0, reads_both files more r.0 mid new bs cs r.1.1 q))
 
-pub stops_behind : (files more : List NamedFile) (old mid new : Shelved) (bs : List (List ℕ)) (outcome : Outcome) → ReadsAll files old mid bs
-    → StopsAmong more mid new outcome → StopsAmong (files ++ more) old new outcome
-stops_behind [] more old mid new [] outcome r q = subst (λ (s : Shelved). StopsAmong more s new outcome) r q
-stops_behind [] more old mid new (b ∷ bs) outcome r q = absurd r
-stops_behind (f ∷ files) more old mid new [] outcome r q = absurd r
-stops_behind (f ∷ files) more old mid new (b ∷ bs) outcome r q = inr (r.0, (b, (r.1.0, stops_behind files more r.0 mid new bs outcome r.1.1 q)))
+pub stops_behind : (files more : List NamedFile) (old mid new : Shelved) (bs : List (List ℕ)) (refusal : Refusal) → ReadsAll files old mid bs
+    → StopsAmong more mid new refusal → StopsAmong (files ++ more) old new refusal
+stops_behind [] more old mid new [] refusal r q = subst (λ (s : Shelved). StopsAmong more s new refusal) r q
+stops_behind [] more old mid new (b ∷ bs) refusal r q = absurd r
+stops_behind (f ∷ files) more old mid new [] refusal r q = absurd r
+stops_behind (f ∷ files) more old mid new (b ∷ bs) refusal r q = inr (r.0, (b, (r.1.0, stops_behind files more r.0 mid new bs refusal r.1.1 q)))
 
-pub stops_before : (files more : List NamedFile) (old new : Shelved) (outcome : Outcome) → StopsAmong files old new outcome
-    → StopsAmong (files ++ more) old new outcome
-stops_before [] more old new outcome s = absurd s
-stops_before (f ∷ files) more old new outcome (inl here) = inl here
-stops_before (f ∷ files) more old new outcome (inr s) = inr (s.0, (s.1.0, (s.1.1.0, stops_before files more s.0 new outcome s.1.1.1)))
+pub stops_before : (files more : List NamedFile) (old new : Shelved) (refusal : Refusal) → StopsAmong files old new refusal
+    → StopsAmong (files ++ more) old new refusal
+stops_before [] more old new refusal s = absurd s
+stops_before (f ∷ files) more old new refusal (inl here) = inl here
+stops_before (f ∷ files) more old new refusal (inr s) = inr (s.0, (s.1.0, (s.1.1.0, stops_before files more s.0 new refusal s.1.1.1)))
 
 pub port_bytes_last : (files : List PortFile) (file : PortFile) (more : List (List ℕ)) → port_bytes (files ++ file ∷ []) ++ more ≡ port_bytes files ++ file.input ∷ file.output ∷ more
 port_bytes_last [] file more = refl
@@ -114,7 +114,7 @@ none_agreed old new answers (f ∷ files) agree =
     (subst (λ (r : Read). IsAnswer old new f.0 f.1 r) (sym agree.0) (no_answer old new f.0 f.1), none_agreed old new answers files agree.1)
 
 -- what further loads leave
-pub record Known (answers : Answers) (files : List NamedFile) (old a new : Shelved) (refusal : Option Outcome) : Type 0 where
+pub record Known (answers : Answers) (files : List NamedFile) (old a new : Shelved) (refusal : Option Refusal) : Type 0 where
   pub unread : first_unread answers files ≡ refusal
   pub asked : new.asked ≡ a.asked ++ loads_until answers files
   pub answered : AreAnswers old new files answers
@@ -143,17 +143,17 @@ known_all answers (f ∷ files) old a new (b ∷ bs) p agree r =
       follows = follows_both a mid new step rest.follows;
     }
 
-pub stop_reads : (files : List NamedFile) (a new : Shelved) (outcome : Outcome) → StopsAmong files a new outcome → List Read
-stop_reads [] a new outcome s = absurd s
-stop_reads (f ∷ files) a new outcome (inl here) = Err here.fault ∷ []
-stop_reads (f ∷ files) a new outcome (inr s) = Ok s.1.0 ∷ stop_reads files s.0 new outcome s.1.1.1
+pub stop_reads : (files : List NamedFile) (a new : Shelved) (refusal : Refusal) → StopsAmong files a new refusal → List Read
+stop_reads [] a new refusal s = absurd s
+stop_reads (f ∷ files) a new refusal (inl here) = Err here.fault ∷ []
+stop_reads (f ∷ files) a new refusal (inr s) = Ok s.1.0 ∷ stop_reads files s.0 new refusal s.1.1.1
 
-known_stopped : (answers : Answers) (files : List NamedFile) (old a new : Shelved) (outcome : Outcome) (s : StopsAmong files a new outcome) → Follows old a
-    → Agree answers files (stop_reads files a new outcome s) → Known answers files old a new (Some outcome)
+known_stopped : (answers : Answers) (files : List NamedFile) (old a new : Shelved) (refusal : Refusal) (s : StopsAmong files a new refusal) → Follows old a
+    → Agree answers files (stop_reads files a new refusal s) → Known answers files old a new (Some refusal)
 unfolding stop_reads
-known_stopped answers [] old a new outcome s p agree = absurd s
-known_stopped answers (f ∷ files) old a new outcome (inl here) p agree = record {
-  unread = subst (λ (x : Read). unless_unread f.0 x (first_unread answers files) ≡ Some outcome) (sym agree.0) (ap Some (sym here.names));
+known_stopped answers [] old a new refusal s p agree = absurd s
+known_stopped answers (f ∷ files) old a new refusal (inl here) p agree = record {
+  unread = subst (λ (x : Read). unless_unread f.0 x (first_unread answers files) ≡ Some refusal) (sym agree.0) (ap Some (sym here.names));
   asked = subst (λ (x : Read). new.asked ≡ a.asked ++ Load' f.1 x ∷ where_read x (loads_until answers files)) (sym agree.0) here.loads.asked;
   answered = (
     subst (λ (x : Read). IsAnswer old new f.0 f.1 x) (sym agree.0) (answer_among f.0 f.1 old a new new (Err here.fault) p here.loads (follows_same new)),
@@ -161,13 +161,13 @@ known_stopped answers (f ∷ files) old a new outcome (inl here) p agree = recor
   );
   follows = follows_load a new f.1 (limit_of f.0) (Err here.fault) here.loads;
 }
-known_stopped answers (f ∷ files) old a new outcome (inr s) p agree =
+known_stopped answers (f ∷ files) old a new refusal (inr s) p agree =
     let mid : Shelved = s.0 in
     let b : List ℕ = s.1.0 in
     let loads : Loads a mid f.1 (limit_of f.0) (Ok b) = s.1.1.0 in
     let step : Follows a mid = follows_load a mid f.1 (limit_of f.0) (Ok b) loads in
-    let rest : Known answers files old mid new (Some outcome) = known_stopped answers files old mid new outcome s.1.1.1 (follows_both old a mid p step) agree.1 in record {
-      unread = subst (λ (x : Read). unless_unread f.0 x (first_unread answers files) ≡ Some outcome) (sym agree.0) rest.unread;
+    let rest : Known answers files old mid new (Some refusal) = known_stopped answers files old mid new refusal s.1.1.1 (follows_both old a mid p step) agree.1 in record {
+      unread = subst (λ (x : Read). unless_unread f.0 x (first_unread answers files) ≡ Some refusal) (sym agree.0) rest.unread;
       asked = subst (λ (x : Read). new.asked ≡ a.asked ++ Load' f.1 x ∷ where_read x (loads_until answers files)) (sym agree.0)
           (rest.asked ∙ ap (λ (xs : List Asked). xs ++ loads_until answers files) loads.asked
           ∙ append_assoc a.asked (Load' f.1 (Ok b) ∷ []) (loads_until answers files));
@@ -205,11 +205,11 @@ same_files files ports is =
 
 -- the program and the rescue file were accepted
 
-accepted : (r v : Result Loaded Outcome) (loaded : Loaded) → r ≡ Ok loaded → IsOrMemory r v → v ≡ Ok loaded
+accepted : (r v : Result Loaded Refusal) (loaded : Loaded) → r ≡ Ok loaded → IsOrMemory r v → v ≡ Ok loaded
 accepted r v loaded is (inl same) = sym same ∙ is
 accepted r v loaded is (inr memory) = let clash = sym memory ∙ is in cc
 
-asked_whole : (old new loads : List Asked) (loaded : Loaded) → IsAskedFor (◌≡◌ {A = Result Loaded Outcome} (Ok loaded) (Err Memory)) old new loads → new ≡ old ++ loads
+asked_whole : (old new loads : List Asked) (loaded : Loaded) → IsAskedFor (◌≡◌ {A = Result Loaded Refusal} (Ok loaded) (Err wanting)) old new loads → new ≡ old ++ loads
 asked_whole old new loads loaded (inl is) = is
 asked_whole old new loads loaded (inr wants) = let clash = wants.0 in cc
 
@@ -239,28 +239,28 @@ audits_done f names old mid new loaded x reads p r =
     let files : audit_files answers names.ports ≡ x.files = same_files x.files (port_files answers 3 names.ports) ports in record {
       answers = answers;
       answered = answers_both old new (named_files f) (further_of names) answers (answers_later old mid new (named_files f) answers (first_stay f reads.answers bytes old mid reads.answered) known.follows) known.answered;
-      asked = inl (subst (λ (v : Result Loaded Outcome). new.asked ≡ old.asked ++ (loads_of_files f answers ++ further_loads v answers (further_of names))) (sym is)
+      asked = inl (subst (λ (v : Result Loaded Refusal). new.asked ≡ old.asked ++ (loads_of_files f answers ++ further_loads v answers (further_of names))) (sym is)
           (asked_too old.asked mid.asked new.asked (loads_of_files f answers) (loads_until answers (further_of names))
           (asked_whole old.asked mid.asked (loads_of_files f answers) loaded reads.asked) known.asked));
-      value = inl (subst (λ (v : Result Loaded Outcome). Ok (task.Audit (record { loaded = loaded; history = x.history; files = x.files })) ≡ audit_with v (further_of names) answers names.ports) (sym is)
-          (subst (λ (u : Option Outcome). Ok (task.Audit (record { loaded = loaded; history = x.history; files = x.files })) ≡ audit_unless u loaded answers names.ports) (sym known.unread)
+      value = inl (subst (λ (v : Result Loaded Refusal). Ok (task.Audit (record { loaded = loaded; history = x.history; files = x.files })) ≡ audit_with v (further_of names) answers names.ports) (sym is)
+          (subst (λ (u : Option Refusal). Ok (task.Audit (record { loaded = loaded; history = x.history; files = x.files })) ≡ audit_unless u loaded answers names.ports) (sym known.unread)
           (ap (λ (fs : AuditFiles). Ok (task.Audit (record { loaded = loaded; history = x.history; files = fs }))) (sym files))));
     }
 
-pub audits_stopped : (f : Files) (names : FurtherNames) (old mid new : Shelved) (loaded : Loaded) (outcome : Outcome) → ReadsFiles f old mid (Ok loaded) → Follows old mid
-    → StopsAmong (further_of names) mid new outcome → AuditsFiles f names old new (Err outcome)
-audits_stopped f names old mid new loaded outcome reads p s =
-    let bytes : List Read = stop_reads (further_of names) mid new outcome s in
+pub audits_stopped : (f : Files) (names : FurtherNames) (old mid new : Shelved) (loaded : Loaded) (refusal : Refusal) → ReadsFiles f old mid (Ok loaded) → Follows old mid
+    → StopsAmong (further_of names) mid new refusal → AuditsFiles f names old new (Err refusal)
+audits_stopped f names old mid new loaded refusal reads p s =
+    let bytes : List Read = stop_reads (further_of names) mid new refusal s in
     let answers : Answers = all_answers reads.answers bytes in
-    let known : Known answers (further_of names) old mid new (Some outcome) = known_stopped answers (further_of names) old mid new outcome s p (agree_further reads.answers bytes names) in
+    let known : Known answers (further_of names) old mid new (Some refusal) = known_stopped answers (further_of names) old mid new refusal s p (agree_further reads.answers bytes names) in
     let is : loaded_of f answers ≡ Ok loaded = accepted (Ok loaded) (loaded_of f answers) loaded refl reads.value in record {
       answers = answers;
       answered = answers_both old new (named_files f) (further_of names) answers (answers_later old mid new (named_files f) answers (first_stay f reads.answers bytes old mid reads.answered) known.follows) known.answered;
-      asked = inl (subst (λ (v : Result Loaded Outcome). new.asked ≡ old.asked ++ (loads_of_files f answers ++ further_loads v answers (further_of names))) (sym is)
+      asked = inl (subst (λ (v : Result Loaded Refusal). new.asked ≡ old.asked ++ (loads_of_files f answers ++ further_loads v answers (further_of names))) (sym is)
           (asked_too old.asked mid.asked new.asked (loads_of_files f answers) (loads_until answers (further_of names))
           (asked_whole old.asked mid.asked (loads_of_files f answers) loaded reads.asked) known.asked));
-      value = inl (subst (λ (v : Result Loaded Outcome). Err outcome ≡ audit_with v (further_of names) answers names.ports) (sym is)
-          (subst (λ (u : Option Outcome). Err outcome ≡ audit_unless u loaded answers names.ports) (sym known.unread) refl));
+      value = inl (subst (λ (v : Result Loaded Refusal). Err refusal ≡ audit_with v (further_of names) answers names.ports) (sym is)
+          (subst (λ (u : Option Refusal). Err refusal ≡ audit_unless u loaded answers names.ports) (sym known.unread) refl));
     }
 
 -- the first of these and of others
@@ -283,41 +283,41 @@ asked_more wanting old new loads more wants (inr w) =
 asked_none : (wanting : Type 0) (old new loads : List Asked) → IsAskedFor wanting old new loads → IsAskedFor wanting old new (loads ++ [])
 asked_none wanting old new loads asked = subst (λ (xs : List Asked). IsAskedFor wanting old new xs) (sym (append-nil loads)) asked
 
-asked_refused : (f : Files) (names : FurtherNames) (answers : Answers) (outcome : Outcome) (v : Result Loaded Outcome) (old new : List Asked)
-    → ◌≡◌ {A = Result Loaded Outcome} (Err outcome) v ⊎ (◌≡◌ {A = Result Loaded Outcome} (Err outcome) (Err Memory))
-    → IsAskedFor (◌≡◌ {A = Result Task Outcome} (Err outcome) (Err Memory)) old new (loads_of_files f answers)
-    → IsAskedFor (◌≡◌ {A = Result Task Outcome} (Err outcome) (Err Memory)) old new (loads_of_files f answers ++ further_loads v answers (further_of names))
-asked_refused f names answers outcome v old new (inl is) asked =
-    subst (λ (r : Result Loaded Outcome). IsAskedFor (◌≡◌ {A = Result Task Outcome} (Err outcome) (Err Memory)) old new (loads_of_files f answers ++ further_loads r answers (further_of names))) is
-    (asked_none (◌≡◌ {A = Result Task Outcome} (Err outcome) (Err Memory)) old new (loads_of_files f answers) asked)
-asked_refused f names answers outcome v old new (inr memory) asked =
-    asked_more (◌≡◌ {A = Result Task Outcome} (Err outcome) (Err Memory)) old new (loads_of_files f answers) (further_loads v answers (further_of names)) (cc) asked
+asked_refused : (f : Files) (names : FurtherNames) (answers : Answers) (refusal : Refusal) (v : Result Loaded Refusal) (old new : List Asked)
+    → ◌≡◌ {A = Result Loaded Refusal} (Err refusal) v ⊎ (◌≡◌ {A = Result Loaded Refusal} (Err refusal) (Err wanting))
+    → IsAskedFor (◌≡◌ {A = Result Task Refusal} (Err refusal) (Err wanting)) old new (loads_of_files f answers)
+    → IsAskedFor (◌≡◌ {A = Result Task Refusal} (Err refusal) (Err wanting)) old new (loads_of_files f answers ++ further_loads v answers (further_of names))
+asked_refused f names answers refusal v old new (inl is) asked =
+    subst (λ (r : Result Loaded Refusal). IsAskedFor (◌≡◌ {A = Result Task Refusal} (Err refusal) (Err wanting)) old new (loads_of_files f answers ++ further_loads r answers (further_of names))) is
+    (asked_none (◌≡◌ {A = Result Task Refusal} (Err refusal) (Err wanting)) old new (loads_of_files f answers) asked)
+asked_refused f names answers refusal v old new (inr memory) asked =
+    asked_more (◌≡◌ {A = Result Task Refusal} (Err refusal) (Err wanting)) old new (loads_of_files f answers) (further_loads v answers (further_of names)) (cc) asked
 
--- an outcome that another type's value is refused for
+-- an refusal that another type's value is refused for
 asked_as : {A B : Type 0} (old new loads : List Asked) → (A → B) → IsAskedFor A old new loads → IsAskedFor B old new loads
 asked_as old new loads f (inl is) = inl is
 asked_as old new loads f (inr wants) = inr (f wants.0, wants.1)
 
-value_refused : (outcome : Outcome) (v : Result Loaded Outcome) (files : List NamedFile) (answers : Answers) (ports : List PortName)
-    → IsOrMemory (Err outcome) v → IsOrMemory (Err outcome) (audit_with v files answers ports)
-value_refused outcome v files answers ports (inl is) =
-    inl (ap (λ (r : Result Loaded Outcome). audit_with r files answers ports) is)
-value_refused outcome v files answers ports (inr memory) = inr (cc)
+value_refused : (refusal : Refusal) (v : Result Loaded Refusal) (files : List NamedFile) (answers : Answers) (ports : List PortName)
+    → IsOrMemory (Err refusal) v → IsOrMemory (Err refusal) (audit_with v files answers ports)
+value_refused refusal v files answers ports (inl is) =
+    inl (ap (λ (r : Result Loaded Refusal). audit_with r files answers ports) is)
+value_refused refusal v files answers ports (inr memory) = inr (cc)
 
-pub audits_refused : (f : Files) (names : FurtherNames) (old new : Shelved) (outcome : Outcome) → ReadsFiles f old new (Err outcome)
-    → AuditsFiles f names old new (Err outcome)
-audits_refused f names old new outcome reads =
+pub audits_refused : (f : Files) (names : FurtherNames) (old new : Shelved) (refusal : Refusal) → ReadsFiles f old new (Err refusal)
+    → AuditsFiles f names old new (Err refusal)
+audits_refused f names old new refusal reads =
     let answers : Answers = all_answers reads.answers [] in record {
       answers = answers;
       answered = answers_both old new (named_files f) (further_of names) answers (first_stay f reads.answers [] old new reads.answered) (none_agreed old new answers (further_of names) (agree_further reads.answers [] names));
-      asked = asked_refused f names answers outcome (loaded_of f answers) old.asked new.asked reads.value
+      asked = asked_refused f names answers refusal (loaded_of f answers) old.asked new.asked reads.value
           (asked_as old.asked new.asked (loads_of_files f answers) (λ memory. cc) reads.asked);
-      value = value_refused outcome (loaded_of f answers) (further_of names) answers names.ports reads.value;
+      value = value_refused refusal (loaded_of f answers) (further_of names) answers names.ports reads.value;
     }
 
 -- memory was wanting before any of them was asked for
-pub audits_wanting : (f : Files) (names : FurtherNames) (s : Shelved) (outcome : Outcome) → outcome ≡ Memory → AuditsFiles f names s s (Err outcome)
-audits_wanting f names s outcome is = record {
+pub audits_wanting : (f : Files) (names : FurtherNames) (s : Shelved) (refusal : Refusal) → refusal ≡ wanting → AuditsFiles f names s s (Err refusal)
+audits_wanting f names s refusal is = record {
   answers = no_answers;
   answered = none_answered s s (named_files f ++ further_of names);
   asked = inr (ap Err is, (0, sym (append-nil s.asked) ∙ ap (λ (xs : List Asked). s.asked ++ xs) (sym (take_none (loads_of_files f no_answers ++ further_loads (loaded_of f no_answers) no_answers (further_of names))))));
@@ -332,11 +332,11 @@ follows_all (f ∷ files) a new [] r = absurd r
 follows_all (f ∷ files) a new (b ∷ bs) r =
     follows_both a r.0 new (follows_load a r.0 f.1 (limit_of f.0) (Ok b) r.1.0) (follows_all files r.0 new bs r.1.1)
 
-pub follows_stopped : (files : List NamedFile) (a new : Shelved) (outcome : Outcome) → StopsAmong files a new outcome → Follows a new
-follows_stopped [] a new outcome s = absurd s
-follows_stopped (f ∷ files) a new outcome (inl here) = follows_load a new f.1 (limit_of f.0) (Err here.fault) here.loads
-follows_stopped (f ∷ files) a new outcome (inr s) =
-    follows_both a s.0 new (follows_load a s.0 f.1 (limit_of f.0) (Ok s.1.0) s.1.1.0) (follows_stopped files s.0 new outcome s.1.1.1)
+pub follows_stopped : (files : List NamedFile) (a new : Shelved) (refusal : Refusal) → StopsAmong files a new refusal → Follows a new
+follows_stopped [] a new refusal s = absurd s
+follows_stopped (f ∷ files) a new refusal (inl here) = follows_load a new f.1 (limit_of f.0) (Err here.fault) here.loads
+follows_stopped (f ∷ files) a new refusal (inr s) =
+    follows_both a s.0 new (follows_load a s.0 f.1 (limit_of f.0) (Ok s.1.0) s.1.1.0) (follows_stopped files s.0 new refusal s.1.1.1)
 
 -- the files of a port are loaded, and then those of the ports behind it
 
@@ -345,8 +345,8 @@ GoesOn whole first files number ports here = (new : Shelved) (more : List (List 
     → ReadsAll whole first new (port_bytes files ++ more)
 
 abbrev pub StopsOn : List NamedFile → Shelved → ℕ → List PortName → Shelved → Type 0
-StopsOn whole first number ports here = (new : Shelved) (outcome : Outcome) → StopsAmong (device_files number (port_names ports)) here new outcome
-    → StopsAmong whole first new outcome
+StopsOn whole first number ports here = (new : Shelved) (refusal : Refusal) → StopsAmong (device_files number (port_names ports)) here new refusal
+    → StopsAmong whole first new refusal
 
 abbrev pub port_named_files : ℕ → PortName → List NamedFile
 port_named_files number port = (which.Device number, port.input) ∷ (which.Device (number + 1), port.output) ∷ []
@@ -366,15 +366,15 @@ port_read whole first files number next port ports here now file is read on = λ
 pub port_passed : (whole : List NamedFile) (first : Shelved) (number next : ℕ) (port : PortName) (ports : List PortName) (here now : Shelved)
     (file : PortFile) → next ≡ number + 2 → ReadsAll (port_named_files number port) here now (file.input ∷ file.output ∷ [])
     → StopsOn whole first number (port ∷ ports) here → StopsOn whole first next ports now
-port_passed whole first number next port ports here now file is read on = λ new outcome rest.
-    on new outcome
-    (stops_behind (port_named_files number port) (device_files (number + 1 + 1) (port_names ports)) here now new (file.input ∷ file.output ∷ []) outcome read
-    (subst (λ (n : ℕ). StopsAmong (device_files n (port_names ports)) now new outcome) (two_more number next is) rest))
+port_passed whole first number next port ports here now file is read on = λ new refusal rest.
+    on new refusal
+    (stops_behind (port_named_files number port) (device_files (number + 1 + 1) (port_names ports)) here now new (file.input ∷ file.output ∷ []) refusal read
+    (subst (λ (n : ℕ). StopsAmong (device_files n (port_names ports)) now new refusal) (two_more number next is) rest))
 
-pub port_stopped : (whole : List NamedFile) (first : Shelved) (number : ℕ) (port : PortName) (ports : List PortName) (here new : Shelved) (outcome : Outcome)
-    → StopsAmong (port_named_files number port) here new outcome → StopsOn whole first number (port ∷ ports) here → StopsAmong whole first new outcome
-port_stopped whole first number port ports here new outcome stop on =
-    on new outcome (stops_before (port_named_files number port) (device_files (number + 1 + 1) (port_names ports)) here new outcome stop)
+pub port_stopped : (whole : List NamedFile) (first : Shelved) (number : ℕ) (port : PortName) (ports : List PortName) (here new : Shelved) (refusal : Refusal)
+    → StopsAmong (port_named_files number port) here new refusal → StopsOn whole first number (port ∷ ports) here → StopsAmong whole first new refusal
+port_stopped whole first number port ports here new refusal stop on =
+    on new refusal (stops_before (port_named_files number port) (device_files (number + 1 + 1) (port_names ports)) here new refusal stop)
 
 pub ports_read : (whole : List NamedFile) (first : Shelved) (files : List PortFile) (number : ℕ) (ports : List PortName) (here : Shelved) → ports ≡ []
     → GoesOn whole first files number ports here → ReadsAll whole first here (port_bytes files)
@@ -396,10 +396,10 @@ ports_begin first ports files none =
 
 pub stops_begin : (first : Shelved) (ports : List PortName) → StopsOn (device_files 3 (port_names ports)) first 3 (drop 0 ports) first
 stops_begin first ports =
-    subst (λ (ps : List PortName). StopsOn (device_files 3 (port_names ports)) first 3 ps first) (sym (none_dropped ports)) (λ new outcome s. s)
+    subst (λ (ps : List PortName). StopsOn (device_files 3 (port_names ports)) first 3 ps first) (sym (none_dropped ports)) (λ new refusal s. s)
 
 -- a file that stops the others, behind some that were read
-pub stops_after : (done here more : List NamedFile) (old mid new : Shelved) (bs : List (List ℕ)) (outcome : Outcome) → ReadsAll done old mid bs
-    → StopsAmong here mid new outcome → StopsAmong (done ++ (here ++ more)) old new outcome
-stops_after done here more old mid new bs outcome r s =
-    stops_behind done (here ++ more) old mid new bs outcome r (stops_before here more mid new outcome s)
+pub stops_after : (done here more : List NamedFile) (old mid new : Shelved) (bs : List (List ℕ)) (refusal : Refusal) → ReadsAll done old mid bs
+    → StopsAmong here mid new refusal → StopsAmong (done ++ (here ++ more)) old new refusal
+stops_after done here more old mid new bs refusal r s =
+    stops_behind done (here ++ more) old mid new bs refusal r (stops_before here more mid new refusal s)

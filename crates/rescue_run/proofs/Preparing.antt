@@ -28,8 +28,8 @@ use Rattle.rescue_run.specs.declared.setup.Setup.{Setup}
 use Rattle.rescue_run.specs.declared.start.Loaded.{Loaded}
 use Rattle.rescue_run.specs.declared.task.Task.{Task}
 use Rattle.rescue_run.specs.declared.task.Task.TheVariants as task
-use Rattle.rescue_run.specs.declared.outcome.Outcome.{Outcome}
-use Rattle.rescue_run.specs.declared.outcome.Outcome.TheVariants.{PortCount, Words, Memory}
+use Rattle.rescue_run.specs.declared.refusal.Refusal.{Refusal}
+use Rattle.rescue_run.specs.declared.outcome.Outcome.TheVariants.{PortCount, Words}
 use Rattle.rescue_run.specs.declared.outcome.Which.TheVariants as which
 use Rattle.rescue_run.specs.Loading.{Answers}
 use Rattle.rescue_run.specs.Prepares.{AreAnswersFor, AuditsFiles, ListsFile, Prepares, PreparesCommand, PreparesCounted, StartsFiles}
@@ -39,6 +39,7 @@ use Rattle.rescue_run.specs.Tasks.{runs_threads, CanStart}
 use Rattle.rescue_run.specs.Trying.{TriesFiles}
 use Rattle.rescue_run.specs.Words.{files_of, lacks_threads, loads_by, loads_for, loads_read, needs_threads, ports_named, run_with, task_by, task_read, list_with}
 use Rattle.rescue_run.proofs.Shelving.{answer_among, follows_same, none_answered, no_answers, take_none, two_answers}
+use Rattle.rescue_run.specs.Refusals.{plain, wanting}
 
 -- an answer that a function takes over
 
@@ -46,11 +47,11 @@ asked_on : {A B : Type 0} (old new loads : List Asked) → (A → B) → IsAsked
 asked_on old new loads f (inl is) = inl is
 asked_on old new loads f (inr wants) = inr (f wants.0, wants.1)
 
-value_on : {A B : Type 0} (f : Result A Outcome → Result B Outcome) (r value : Result A Outcome) → f (Err Memory) ≡ Err Memory → IsOrMemory r value → IsOrMemory (f r) (f value)
+value_on : {A B : Type 0} (f : Result A Refusal → Result B Refusal) (r value : Result A Refusal) → f (Err wanting) ≡ Err wanting → IsOrMemory r value → IsOrMemory (f r) (f value)
 value_on f r value keeps (inl is) = inl (ap f is)
 value_on f r value keeps (inr memory) = inr (ap f memory ∙ keeps)
 
-pub starts_files : (f : Files) (setup : Setup) (save : Option (List ℕ)) (old new : Shelved) (r : Result Loaded Outcome) → ReadsFiles f old new r
+pub starts_files : (f : Files) (setup : Setup) (save : Option (List ℕ)) (old new : Shelved) (r : Result Loaded Refusal) → ReadsFiles f old new r
     → StartsFiles f setup save old new (run_with setup save r)
 starts_files f setup save old new r reads = record {
   answers = reads.answers;
@@ -61,7 +62,7 @@ starts_files f setup save old new r reads = record {
 
 -- the list of the symbols of a program
 
-pub lists_file : (name : List ℕ) (old new : Shelved) (r : Result (List Symbol) Outcome) → ReadsSymbols name old new r
+pub lists_file : (name : List ℕ) (old new : Shelved) (r : Result (List Symbol) Refusal) → ReadsSymbols name old new r
     → ListsFile name old new (list_with r)
 lists_file name old new r reads = record {
   answer = reads.answer;
@@ -69,7 +70,7 @@ lists_file name old new r reads = record {
   value = value_on list_with r _ refl reads.value;
 }
 
-pub prepares_list : (name : List ℕ) (old new : Shelved) (r : Result Task Outcome) → ListsFile name old new r
+pub prepares_list : (name : List ℕ) (old new : Shelved) (r : Result Task Refusal) → ListsFile name old new r
     → PreparesCommand (command.List name) old new r
 prepares_list name old new r lists = record {
   answers = two_answers lists.answer (Err shelf.Memory);
@@ -87,25 +88,25 @@ no_words_answered : (words : List (List ℕ)) (s : Shelved) → AreAnswersFor wo
 no_words_answered words s c is = none_answered s s (files_of c)
 
 pub prepares_threads : (threads : Bool) (words : List (List ℕ)) (handed : ℕ) (s : Shelved) → lacks_threads threads words ≡ true
-    → Prepares threads words handed s s (Err (Words Threads))
+    → Prepares threads words handed s s (Err (plain (Words Threads)))
 prepares_threads threads words handed s lacks = record {
   answers = no_answers;
   answered = no_words_answered words s;
   asked = inl (subst (λ b. s.asked ≡ s.asked ++ (if b then [] else loads_read (command_of words) handed no_answers)) (sym lacks) (nothing_asked s.asked));
-  value = inl (subst (λ b. Err (Words Threads) ≡ (if b then Err (Words Threads) else task_read (command_of words) handed no_answers)) (sym lacks) refl);
+  value = inl (subst (λ b. Err (plain (Words Threads)) ≡ (if b then Err (plain (Words Threads)) else task_read (command_of words) handed no_answers)) (sym lacks) refl);
 }
 
 -- the words are read
-prepares_read : (threads : Bool) (words : List (List ℕ)) (handed : ℕ) (old new : Shelved) (result : Result Task Outcome) (answers : Answers)
+prepares_read : (threads : Bool) (words : List (List ℕ)) (handed : ℕ) (old new : Shelved) (result : Result Task Refusal) (answers : Answers)
     (reading : Result Command WordFault) → lacks_threads threads words ≡ false → command_of words ≡ reading → AreAnswersFor words old new answers
-    → IsAskedFor (result ≡ Err Memory) old.asked new.asked (loads_read reading handed answers)
+    → IsAskedFor (result ≡ Err wanting) old.asked new.asked (loads_read reading handed answers)
     → IsOrMemory result (task_read reading handed answers) → Prepares threads words handed old new result
 prepares_read threads words handed old new result answers reading has is answered asked value = record {
   answers = answers;
   answered = answered;
-  asked = subst (λ b. IsAskedFor (result ≡ Err Memory) old.asked new.asked (if b then [] else loads_read (command_of words) handed answers)) (sym has)
-      (subst (λ r. IsAskedFor (result ≡ Err Memory) old.asked new.asked (loads_read r handed answers)) (sym is) asked);
-  value = subst (λ b. IsOrMemory result (if b then Err (Words Threads) else task_read (command_of words) handed answers)) (sym has)
+  asked = subst (λ b. IsAskedFor (result ≡ Err wanting) old.asked new.asked (if b then [] else loads_read (command_of words) handed answers)) (sym has)
+      (subst (λ r. IsAskedFor (result ≡ Err wanting) old.asked new.asked (loads_read r handed answers)) (sym is) asked);
+  value = subst (λ b. IsOrMemory result (if b then Err (plain (Words Threads)) else task_read (command_of words) handed answers)) (sym has)
       (subst (λ r. IsOrMemory result (task_read r handed answers)) (sym is) value);
 }
 
@@ -118,13 +119,13 @@ pub refused_command : (words : List (List ℕ)) (fault : WordFault) → first_wo
 refused_command words fault is = refused_reading (reading_of words) _ fault is
 
 pub prepares_refused : (threads : Bool) (words : List (List ℕ)) (handed : ℕ) (s : Shelved) (fault : WordFault) → lacks_threads threads words ≡ false
-    → first_word_fault words ≡ Some fault → Prepares threads words handed s s (Err (Words fault))
+    → first_word_fault words ≡ Some fault → Prepares threads words handed s s (Err (plain (Words fault)))
 prepares_refused threads words handed s fault has is =
-    prepares_read threads words handed s s (Err (Words fault)) no_answers (Err fault) has (refused_command words fault is)
+    prepares_read threads words handed s s (Err (plain (Words fault))) no_answers (Err fault) has (refused_command words fault is)
     (no_words_answered words s) (inl (nothing_asked s.asked)) (inl refl)
 
 -- memory was wanting for the reading
-pub prepares_none : (threads : Bool) (words : List (List ℕ)) (handed : ℕ) (s : Shelved) → Prepares threads words handed s s (Err Memory)
+pub prepares_none : (threads : Bool) (words : List (List ℕ)) (handed : ℕ) (s : Shelved) → Prepares threads words handed s s (Err wanting)
 prepares_none threads words handed s = record {
   answers = no_answers;
   answered = no_words_answered words s;
@@ -136,13 +137,13 @@ abbrev CommandErr : WordsFault → WordsFault → Type 0
 CommandErr fault other = ◌≡◌ {A = Result Command WordsFault} (Err fault) (Err other)
 
 -- the words give no command
-pub prepares_fault : (threads : Bool) (words : List (List ℕ)) (handed : ℕ) (s : Shelved) (fault : WordsFault) (outcome : Outcome)
-    → outcome ≡ of_words_fault fault → lacks_threads threads words ≡ false
+pub prepares_fault : (threads : Bool) (words : List (List ℕ)) (handed : ℕ) (s : Shelved) (fault : WordsFault) (refusal : Refusal)
+    → refusal ≡ of_words_fault fault → lacks_threads threads words ≡ false
     → ((f : WordFault) → CommandErr fault (words_fault.Words f) → first_word_fault words ≡ Some f)
-    → Prepares threads words handed s s (Err outcome)
-prepares_fault threads words handed s (words_fault.Words f) outcome is has cause =
+    → Prepares threads words handed s s (Err refusal)
+prepares_fault threads words handed s (words_fault.Words f) refusal is has cause =
     subst (λ o. Prepares threads words handed s s (Err o)) (sym is) (prepares_refused threads words handed s f has (cause f refl))
-prepares_fault threads words handed s words_fault.Memory outcome is has cause =
+prepares_fault threads words handed s words_fault.Memory refusal is has cause =
     subst (λ o. Prepares threads words handed s s (Err o)) (sym is) (prepares_none threads words handed s)
 
 -- the command runs on threads just where its first word says so
@@ -161,7 +162,7 @@ needs_by (first ∷ rest) b iff =
     (λ y. iff.1 (ap Some ((bytes_eq-Decides first (codes "run")).0 y)))
 
 -- a load, which brings its own files
-pub prepares_load : (number : ℕ) (s : Shelved) (r : Result Task Outcome) → IsOrMemory r (task_by (command.Load number) no_answers)
+pub prepares_load : (number : ℕ) (s : Shelved) (r : Result Task Refusal) → IsOrMemory r (task_by (command.Load number) no_answers)
     → PreparesCommand (command.Load number) s s r
 prepares_load number s r value = record {
   answers = no_answers;
@@ -171,7 +172,7 @@ prepares_load number s r value = record {
 }
 
 -- an audit
-pub prepares_audit : (points : Option (List ℕ)) (history program input out err : List ℕ) (ports : List PortName) (old new : Shelved) (r : Result Task Outcome)
+pub prepares_audit : (points : Option (List ℕ)) (history program input out err : List ℕ) (ports : List PortName) (old new : Shelved) (r : Result Task Refusal)
     → AuditsFiles (record { program = program; points = points })
     (record { history = history; input = input; out = out; err = err; ports = ports }) old new r
     → PreparesCommand (command.Audit points history program input out err ports) old new r
@@ -183,7 +184,7 @@ prepares_audit points history program input out err ports old new r a = record {
 }
 
 -- trials
-pub prepares_try : (harts budget seed : ℕ) (returns : ℤ) (program input : List ℕ) (old new : Shelved) (r : Result Task Outcome)
+pub prepares_try : (harts budget seed : ℕ) (returns : ℤ) (program input : List ℕ) (old new : Shelved) (r : Result Task Refusal)
     → TriesFiles (record { harts = harts; budget = budget; seed = seed; returns = returns }) program input old new r
     → PreparesCommand (command.Try harts budget seed returns program input) old new r
 prepares_try harts budget seed returns program input old new r t = record {
@@ -194,9 +195,9 @@ prepares_try harts budget seed returns program input old new r t = record {
 }
 
 -- a command for which no file is asked, and which is refused
-pub prepares_unknown : (c : Command) (s : Shelved) (outcome : Outcome) → task_by c no_answers ≡ Err outcome → loads_by c no_answers ≡ []
-    → PreparesCommand c s s (Err outcome)
-prepares_unknown c s outcome refused none = record {
+pub prepares_unknown : (c : Command) (s : Shelved) (refusal : Refusal) → task_by c no_answers ≡ Err refusal → loads_by c no_answers ≡ []
+    → PreparesCommand c s s (Err refusal)
+prepares_unknown c s refusal refused none = record {
   answers = no_answers;
   answered = none_answered s s (files_of c);
   asked = inl (nothing_asked s.asked ∙ ap (λ (xs : List Asked). s.asked ++ xs) (sym none));
@@ -205,31 +206,31 @@ prepares_unknown c s outcome refused none = record {
 
 -- another number of ports is handed in than is named
 pub counted_other : (c : Command) (handed : ℕ) (s : Shelved) (named : ℕ) → named ≡ ports_named c → (named == handed) ≡ false
-    → PreparesCounted c handed s s (Err (PortCount named handed))
+    → PreparesCounted c handed s s (Err (plain (PortCount named handed)))
 counted_other c handed s named is other =
     let apart : (ports_named c == handed) ≡ false = subst (λ n. (n == handed) ≡ false) is other in record {
       answers = no_answers;
       answered = none_answered s s (files_of c);
       asked = inl (subst (λ b. s.asked ≡ s.asked ++ (if b then loads_by c no_answers else [])) (sym apart) (nothing_asked s.asked));
-      value = inl (subst (λ b. Err (PortCount named handed) ≡ (if b then task_by c no_answers else Err (PortCount (ports_named c) handed))) (sym apart)
-          (ap (λ n. Err (PortCount n handed)) is));
+      value = inl (subst (λ b. Err (plain (PortCount named handed)) ≡ (if b then task_by c no_answers else Err (plain (PortCount (ports_named c) handed)))) (sym apart)
+          (ap (λ n. Err (plain (PortCount n handed))) is));
     }
 
-pub counted_same : (c : Command) (handed : ℕ) (old new : Shelved) (result : Result Task Outcome) (named : ℕ) → named ≡ ports_named c
+pub counted_same : (c : Command) (handed : ℕ) (old new : Shelved) (result : Result Task Refusal) (named : ℕ) → named ≡ ports_named c
     → (named == handed) ≡ true → PreparesCommand c old new result → PreparesCounted c handed old new result
 counted_same c handed old new result named is equal p =
     let same : (ports_named c == handed) ≡ true = subst (λ n. (n == handed) ≡ true) is equal in record {
       answers = p.answers;
       answered = p.answered;
-      asked = subst (λ b. IsAskedFor (result ≡ Err Memory) old.asked new.asked (if b then loads_by c p.answers else [])) (sym same) p.asked;
-      value = subst (λ b. IsOrMemory result (if b then task_by c p.answers else Err (PortCount (ports_named c) handed))) (sym same) p.value;
+      asked = subst (λ b. IsAskedFor (result ≡ Err wanting) old.asked new.asked (if b then loads_by c p.answers else [])) (sym same) p.asked;
+      value = subst (λ b. IsOrMemory result (if b then task_by c p.answers else Err (plain (PortCount (ports_named c) handed)))) (sym same) p.value;
     }
 
 same_command : (r : Result Command WordFault) (c d : Command) → r ≡ Ok c → r ≡ Ok d → c ≡ d
 same_command r c d p q = search (p, q)
 
 -- the command is prepared
-pub prepares_command : (threads : Bool) (words : List (List ℕ)) (handed : ℕ) (old new : Shelved) (result : Result Task Outcome) (c : Command)
+pub prepares_command : (threads : Bool) (words : List (List ℕ)) (handed : ℕ) (old new : Shelved) (result : Result Task Refusal) (c : Command)
     → lacks_threads threads words ≡ false → command_of words ≡ Ok c → PreparesCounted c handed old new result
     → Prepares threads words handed old new result
 prepares_command threads words handed old new result c has is p =
@@ -296,8 +297,8 @@ start_on a b (task.Load load) on can = can
 start_on a b (task.Audit audit) on can = can
 start_on a b (task.Try t) on can = can
 
-pub can_start : (threads : Bool) (words : List (List ℕ)) (c : Command) (r : Result Task Outcome) → lacks_threads threads words ≡ false
+pub can_start : (threads : Bool) (words : List (List ℕ)) (c : Command) (r : Result Task Refusal) → lacks_threads threads words ≡ false
     → command_of words ≡ Ok c → IfOk r (CanStart (runs_threads c)) → IfOk r (CanStart threads)
 can_start threads words c (Ok t) has is can =
     start_on (runs_threads c) threads t (λ run. has_threads threads words has (run_read words c is run)) can
-can_start threads words c (Err outcome) has is can = tt
+can_start threads words c (Err refusal) has is can = tt

@@ -20,6 +20,7 @@ use Rattle.trial_runs.specs.declared.tries.Tries.{Tries}
 use Rattle.trial_runs.specs.declared.tries.Tries.TheVariants as tries
 use Rattle.guest_words.specs.Word.{word_of}
 use Rattle.rescue_run.specs.declared.outcome.Outcome.{Outcome}
+use Rattle.rescue_run.specs.declared.refusal.Refusal.{Refusal}
 use Rattle.rescue_run.specs.declared.outcome.Which.{Which}
 use Rattle.rescue_run.specs.declared.outcome.Which.TheVariants as which
 use Rattle.rescue_run.specs.declared.task.Task.{Task}
@@ -53,10 +54,10 @@ input_given t program name old new name' limit image input named is same within 
   gives = ap (λ i. Ok (task.Try (task_of t i (symbols_of program) input))) is;
 })
 
-pub input_unread : (t : TrySetup) (program name : List ℕ) (old new : Shelved) (name' : List ℕ) (limit : ℕ) (fault : ShelfFault) (outcome : Outcome)
-    → IsNamed program → name' ≡ name → limit ≡ limit_of (which.Device 0) → outcome ≡ of_shelf_fault (which.Device 0) fault
-    → Loads old new name' limit (Err fault) → TriesProgram t program name old new (Err outcome)
-input_unread t program name old new name' limit fault outcome named same within gives loads = inl (record {
+pub input_unread : (t : TrySetup) (program name : List ℕ) (old new : Shelved) (name' : List ℕ) (limit : ℕ) (fault : ShelfFault) (refusal : Refusal)
+    → IsNamed program → name' ≡ name → limit ≡ limit_of (which.Device 0) → refusal ≡ of_shelf_fault (which.Device 0) fault
+    → Loads old new name' limit (Err fault) → TriesProgram t program name old new (Err refusal)
+input_unread t program name old new name' limit fault refusal named same within gives loads = inl (record {
   symbols = symbols_of program;
   listed = listed_as program named;
   answer = Err fault;
@@ -72,10 +73,10 @@ input_answers program input which.History = Err shelf.Memory
 input_answers program input (which.Device number) = input
 
 -- the shelf doesn't give the program
-pub tries_unread : (t : TrySetup) (program input : List ℕ) (old new : Shelved) (name' : List ℕ) (limit : ℕ) (fault : ShelfFault) (outcome : Outcome)
-    → name' ≡ program → limit ≡ limit_of which.Program → outcome ≡ of_shelf_fault which.Program fault
-    → Loads old new name' limit (Err fault) → TriesFiles t program input old new (Err outcome)
-tries_unread t program input old new name' limit fault outcome same within gives given =
+pub tries_unread : (t : TrySetup) (program input : List ℕ) (old new : Shelved) (name' : List ℕ) (limit : ℕ) (fault : ShelfFault) (refusal : Refusal)
+    → name' ≡ program → limit ≡ limit_of which.Program → refusal ≡ of_shelf_fault which.Program fault
+    → Loads old new name' limit (Err fault) → TriesFiles t program input old new (Err refusal)
+tries_unread t program input old new name' limit fault refusal same within gives given =
     let loads = loads_at old new name' program limit (limit_of which.Program) (Err fault) same within given in record {
       answers = input_answers (Err fault) (Err shelf.Memory);
       answered = (
@@ -87,18 +88,18 @@ tries_unread t program input old new name' limit fault outcome same within gives
     }
 
 -- it is refused for a rule, or memory was wanting
-refused_as : (t : TrySetup) (program input bytes : List ℕ) (old new : Shelved) (outcome : Outcome)
+refused_as : (t : TrySetup) (program input bytes : List ℕ) (old new : Shelved) (refusal : Refusal)
     → Loads old new program (limit_of which.Program) (Ok bytes)
     → AreAnswers old new (try_files program input) (input_answers (Ok bytes) (Err shelf.Memory))
-    → IsUnlisted bytes outcome → TriesFiles t program input old new (Err outcome)
-refused_as t program input bytes old new outcome loads answered (inl rule) = record {
+    → IsUnlisted bytes refusal → TriesFiles t program input old new (Err refusal)
+refused_as t program input bytes old new refusal loads answered (inl rule) = record {
   answers = input_answers (Ok bytes) (Err shelf.Memory);
   answered = answered;
-  asked = inl (subst (λ (r : Result (List Symbol) Outcome). new.asked ≡ old.asked ++ Load' program (Ok bytes) ∷ input_load r input (Err shelf.Memory))
+  asked = inl (subst (λ (r : Result (List Symbol) Refusal). new.asked ≡ old.asked ++ Load' program (Ok bytes) ∷ input_load r input (Err shelf.Memory))
       (sym rule) loads.asked);
-  value = inl (subst (λ (r : Result (List Symbol) Outcome). Err outcome ≡ try_with t bytes r (Err shelf.Memory)) (sym rule) refl);
+  value = inl (subst (λ (r : Result (List Symbol) Refusal). Err refusal ≡ try_with t bytes r (Err shelf.Memory)) (sym rule) refl);
 }
-refused_as t program input bytes old new outcome loads answered (inr memory) = record {
+refused_as t program input bytes old new refusal loads answered (inr memory) = record {
   answers = input_answers (Ok bytes) (Err shelf.Memory);
   answered = answered;
   asked = inr (
@@ -113,18 +114,18 @@ refused_as t program input bytes old new outcome loads answered (inr memory) = r
 }
 
 -- it is refused
-tries_refused : (t : TrySetup) (program input bytes : List ℕ) (old mid new : Shelved) (r : Result Task Outcome)
+tries_refused : (t : TrySetup) (program input bytes : List ℕ) (old mid new : Shelved) (r : Result Task Refusal)
     → Loads old mid program (limit_of which.Program) (Ok bytes) → StopsUnlisted bytes mid new r → TriesFiles t program input old new r
 tries_refused t program input bytes old mid new r loads s =
     let here : Loads old new program (limit_of which.Program) (Ok bytes) =
     subst (λ (x : Shelved). Loads old x program (limit_of which.Program) (Ok bytes)) (sym s.same) loads in
-    subst (λ (x : Result Task Outcome). TriesFiles t program input old new x) (sym s.gives)
-    (refused_as t program input bytes old new s.outcome here
+    subst (λ (x : Result Task Refusal). TriesFiles t program input old new x) (sym s.gives)
+    (refused_as t program input bytes old new s.refusal here
     (answer_among which.Program program old old new new (Ok bytes) (follows_same old) here (follows_same new), (no_answer old new (which.Device 0) input, tt))
     s.cause)
 
 -- it isn't, and the input was loaded
-tries_given : (t : TrySetup) (program input bytes : List ℕ) (old mid new : Shelved) (r : Result Task Outcome)
+tries_given : (t : TrySetup) (program input bytes : List ℕ) (old mid new : Shelved) (r : Result Task Refusal)
     → Loads old mid program (limit_of which.Program) (Ok bytes) → TriesInput t bytes input mid new r → TriesFiles t program input old new r
 tries_given t program input bytes old mid new r loads i = record {
   answers = input_answers (Ok bytes) i.answer;
@@ -132,18 +133,18 @@ tries_given t program input bytes old mid new r loads i = record {
     answer_among which.Program program old old mid new (Ok bytes) (follows_same old) loads (follows_load mid new input (limit_of (which.Device 0)) i.answer i.loads),
     (answer_among (which.Device 0) input old mid new new i.answer (follows_load old mid program (limit_of which.Program) (Ok bytes) loads) i.loads (follows_same new), tt),
   );
-  asked = inl (subst (λ (x : Result (List Symbol) Outcome). new.asked ≡ old.asked ++ Load' program (Ok bytes) ∷ input_load x input i.answer) (sym i.listed)
+  asked = inl (subst (λ (x : Result (List Symbol) Refusal). new.asked ≡ old.asked ++ Load' program (Ok bytes) ∷ input_load x input i.answer) (sym i.listed)
       (i.loads.asked ∙ ap (λ (xs : List Asked). xs ++ Load' input i.answer ∷ []) loads.asked
       ∙ append_assoc old.asked (Load' program (Ok bytes) ∷ []) (Load' input i.answer ∷ [])));
-  value = inl (i.gives ∙ ap (λ (x : Result (List Symbol) Outcome). try_with t bytes x i.answer) (sym i.listed));
+  value = inl (i.gives ∙ ap (λ (x : Result (List Symbol) Refusal). try_with t bytes x i.answer) (sym i.listed));
 }
 
-tries_both : (t : TrySetup) (program input bytes : List ℕ) (old mid new : Shelved) (r : Result Task Outcome)
+tries_both : (t : TrySetup) (program input bytes : List ℕ) (old mid new : Shelved) (r : Result Task Refusal)
     → Loads old mid program (limit_of which.Program) (Ok bytes) → TriesProgram t bytes input mid new r → TriesFiles t program input old new r
 tries_both t program input bytes old mid new r loads (inl given) = tries_given t program input bytes old mid new r loads given
 tries_both t program input bytes old mid new r loads (inr stops) = tries_refused t program input bytes old mid new r loads stops
 
-pub tries_loaded : (t : TrySetup) (program input bytes : List ℕ) (old mid new : Shelved) (name' : List ℕ) (limit : ℕ) (r : Result Task Outcome)
+pub tries_loaded : (t : TrySetup) (program input bytes : List ℕ) (old mid new : Shelved) (name' : List ℕ) (limit : ℕ) (r : Result Task Refusal)
     → name' ≡ program → limit ≡ limit_of which.Program → Loads old mid name' limit (Ok bytes)
     → TriesProgram t bytes input mid new r → TriesFiles t program input old new r
 tries_loaded t program input bytes old mid new name' limit r same within loads tries =
@@ -151,12 +152,12 @@ tries_loaded t program input bytes old mid new name' limit r same within loads t
 
 -- why a program is refused
 
-pub unlisted_elf : (program : List ℕ) (outcome : Outcome) → IsUnaccepted program outcome → IsUnlisted program outcome
-unlisted_elf program outcome (inl b) = inl (ap (λ (o : Option (ElfFault × ℕ)). listed_or program o) b.first ∙ ap Err (sym b.names))
-unlisted_elf program outcome (inr memory) = inr memory
+pub unlisted_elf : (program : List ℕ) (refusal : Refusal) → IsUnaccepted program refusal → IsUnlisted program refusal
+unlisted_elf program refusal (inl b) = inl (ap (λ (o : Option (ElfFault × ℕ)). listed_or program o) b.first ∙ ap Err (sym b.names))
+unlisted_elf program refusal (inr memory) = inr memory
 
-pub unlisted_symbols : (program : List ℕ) (outcome : Outcome) → first_fault program ≡ None → BreaksSymbols program outcome → IsUnlisted program outcome
-unlisted_symbols program outcome accepted b =
+pub unlisted_symbols : (program : List ℕ) (refusal : Refusal) → first_fault program ≡ None → BreaksSymbols program refusal → IsUnlisted program refusal
+unlisted_symbols program refusal accepted b =
     inl (ap (λ (o : Option (ElfFault × ℕ)). listed_or program o) accepted
     ∙ ap (λ (o : Option (SymFault × ℕ)). symbols_or program o) b.first ∙ ap Err (sym b.names))
 

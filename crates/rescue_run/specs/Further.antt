@@ -5,7 +5,7 @@ use Rattle.edge_ports.specs.Asked.{Asked, Loaded as Load'}
 use Rattle.program_words.specs.declared.port_name.PortName.{PortName}
 use Rattle.rescue_audit.specs.declared.files.AuditFiles.{AuditFiles}
 use Rattle.rescue_audit.specs.declared.files.PortFile.{PortFile}
-use Rattle.rescue_run.specs.declared.outcome.Outcome.{Outcome}
+use Rattle.rescue_run.specs.declared.refusal.Refusal.{Refusal}
 use Rattle.rescue_run.specs.declared.outcome.Which.{Which}
 use Rattle.rescue_run.specs.declared.outcome.Which.TheVariants as which
 use Rattle.rescue_run.specs.declared.start.Loaded.{Loaded}
@@ -32,11 +32,11 @@ further_files history input out err ports =
     (which.History, history) ∷ device_files 0 (input ∷ out ∷ err ∷ port_names ports)
 
 -- the refusal of the first file that isn't read
-abbrev pub unless_unread : Which → Read → Option Outcome → Option Outcome
+abbrev pub unless_unread : Which → Read → Option Refusal → Option Refusal
 unless_unread w (Ok bytes) later = later
 unless_unread w (Err fault) later = Some (of_shelf_fault w fault)
 
-abbrev pub first_unread : Answers → List NamedFile → Option Outcome
+abbrev pub first_unread : Answers → List NamedFile → Option Refusal
 first_unread answers [] = None
 first_unread answers (file ∷ files) =
     unless_unread file.0 (answers file.0) (first_unread answers files)
@@ -74,8 +74,8 @@ audit_files answers ports = record {
 }
 
 -- the audit of what was loaded, unless a further file isn't read
-abbrev pub audit_unless : Option Outcome → Loaded → Answers → List PortName → Result Task Outcome
-audit_unless (Some outcome) loaded answers ports = Err outcome
+abbrev pub audit_unless : Option Refusal → Loaded → Answers → List PortName → Result Task Refusal
+audit_unless (Some refusal) loaded answers ports = Err refusal
 audit_unless None loaded answers ports = Ok (task.Audit (record {
   loaded = loaded;
   history = bytes_in (answers which.History);
@@ -84,12 +84,12 @@ audit_unless None loaded answers ports = Ok (task.Audit (record {
 
 -- the same, unless the program or the rescue file is refused
 abbrev pub audit_with :
-    Result Loaded Outcome → List NamedFile → Answers → List PortName → Result Task Outcome
-audit_with (Err outcome) files answers ports = Err outcome
+    Result Loaded Refusal → List NamedFile → Answers → List PortName → Result Task Refusal
+audit_with (Err refusal) files answers ports = Err refusal
 audit_with (Ok loaded) files answers ports =
     audit_unless (first_unread answers files) loaded answers ports
 
 -- the loads of the further files, where neither is refused
-abbrev pub further_loads : Result Loaded Outcome → Answers → List NamedFile → List Asked
-further_loads (Err outcome) answers files = []
+abbrev pub further_loads : Result Loaded Refusal → Answers → List NamedFile → List Asked
+further_loads (Err refusal) answers files = []
 further_loads (Ok loaded) answers files = loads_until answers files

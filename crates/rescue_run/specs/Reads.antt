@@ -6,10 +6,10 @@ use Rattle.edge_ports.specs.Shelves.{Shelved}
 use Rattle.edge_ports.specs.declared.reason.Reason.{Reason}
 use Rattle.edge_ports.specs.declared.shelf.ShelfFault.TheVariants.{Failed, TooLong}
 use Rattle.rescue_run.specs.declared.outcome.Which.{Which}
-use Rattle.rescue_run.specs.declared.outcome.Outcome.{Outcome}
-use Rattle.rescue_run.specs.declared.outcome.Outcome.TheVariants.{Memory}
+use Rattle.rescue_run.specs.declared.refusal.Refusal.{Refusal}
 use Rattle.rescue_run.specs.Outcomes.{limit_of}
 use Rattle.rescue_run.specs.Loading.{Answers, NamedFile, Read}
+use Rattle.rescue_run.specs.Refusals.{wanting}
 
 -- a shelf's answer for a file of a name: no more bytes than are read, each below 256, and those of
 -- the file where it tells; a file isn't read only where its count rose
@@ -40,8 +40,8 @@ pub record Follows (old new : Shelved) : Type 0 where
   pub saves : (n : List ℕ) → new.save_faults n ≡ old.save_faults n
 
 -- this is what it is, or memory was wanting
-abbrev pub IsOrMemory : {T : Type 0} → Result T Outcome → Result T Outcome → Type 0
-IsOrMemory result value = (result ≡ value) ⊎ (result ≡ Err Memory)
+abbrev pub IsOrMemory : {T : Type 0} → Result T Refusal → Result T Refusal → Type 0
+IsOrMemory result value = (result ≡ value) ⊎ (result ≡ Err wanting)
 
 -- a shelf was asked for these and nothing else, in this order, or, where memory was wanting, for
 -- the first of them

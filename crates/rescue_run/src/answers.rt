@@ -29,6 +29,7 @@ use crate::listing::Listing;
 use crate::load::{LoadRan, run_load};
 use crate::outcome::Outcome;
 use crate::put::{put_memory, put_refusal, put_report, put_summary, put_symbols};
+use crate::refusal::Refusal;
 use crate::run::{Ran, run};
 use crate::save::save_behind;
 use crate::shared::run_on_threads;
@@ -66,13 +67,13 @@ fn still<S, T, P>(outcome: Outcome, devices: Devices<S, T, P>) -> Answer<S, T, P
 pub fn answer_refused<S, T, P, R: Sink>(
     alloc: Global,
     words: &[String],
-    outcome: Outcome,
+    refusal: &Refusal,
     devices: Devices<S, T, P>,
     report: &mut R,
 ) -> Answer<S, T, P>
-    ensures said { IsSaid outcome result.outcome }
-    ensures text { IsTold (refusal_text (texts words.now) result.outcome) (R.end report.old)
-        (R.end report.new) }
+    ensures said { IsSaid refusal.now.outcome result.outcome }
+    ensures text { IsTold (refusal_text (texts words.now) refusal.now.lines result.outcome)
+        (R.end report.old) (R.end report.new) }
     ensures answer { result ≡ record {
       status = status_of result.outcome;
       outcome = result.outcome;
@@ -81,7 +82,7 @@ pub fn answer_refused<S, T, P, R: Sink>(
       points = None;
     } }
 {
-    let outcome = put_refusal(alloc, report, words, outcome);
+    let outcome = put_refusal(alloc, report, words, refusal);
     still(outcome, devices)
 }
 

@@ -1,5 +1,5 @@
 //! The top call on ports over files, which are opened when a run starts.
-ghost use Rattle.std.specs.Prelude.{◌≡◌, ◌≤◌, [], length, map, true, vec_capacity};
+ghost use Rattle.std.specs.Prelude.{◌≡◌, ◌≤◌, [], IsNone, false, length, map, true, vec_capacity};
 ghost use Rattle.edge_ports.specs.Adapters.{file_port_end};
 ghost use Rattle.edge_ports.specs.End.{untold};
 ghost use Rattle.program_words.specs.Words.{texts};
@@ -7,10 +7,10 @@ ghost use Rattle.rescue_run.specs.Headline.{Headline};
 ghost use Rattle.rescue_run.specs.Top.{handed, told};
 
 use crate::answer::Answer;
-use crate::outcome::Outcome;
 use crate::prepare::prepare;
+use crate::refusal::Refusal;
 use crate::task::Task;
-use crate::tops::{answer_on_threads, connect};
+use crate::tops::{answer, answer_on_threads, connect};
 use edge_ports::{FilePort, Shelf, Sink, Source};
 use program_words::PortName;
 use std::alloc::Global;
@@ -48,11 +48,50 @@ fn file_ports<X: Read + Write + Drop, R: Files<File = X>>(
 }
 
 /// The system's files, where a program is run on the devices that are handed in.
-fn files_for<'a, R: Files>(files: &'a R, prepared: &Result<Task, Outcome>) -> Option<&'a R> {
+fn files_for<'a, R: Files>(files: &'a R, prepared: &Result<Task, Refusal>) -> Option<&'a R> {
     match prepared {
         Ok(Task::Run(_)) => Some(files),
         _ => None,
     }
+}
+
+/// Does what [`alone_top`](crate::alone_top) does, on ports over the files of these names, which are
+/// opened once nothing refuses the command. It always returns.
+pub fn alone_on_files<
+    F: Shelf,
+    S: Source,
+    T: Sink,
+    X: Read + Write + Drop,
+    R: Files<File = X>,
+    K: Sink,
+>(
+    alloc: Global,
+    words: &[String],
+    shelf: &mut F,
+    input: S,
+    out: T,
+    err: T,
+    files: &R,
+    names: &[PortName],
+    room: Vec<FilePort<X, X>>,
+    report: &mut K,
+) -> Answer<S, T, FilePort<X, X>>
+    requires none { room.items ≡ [] }
+    requires room { length names.now ≤ vec_capacity room }
+    ensures headline { Headline false (texts words.now) (F.seen shelf.old) (F.seen shelf.new)
+        (handed S.end T.end (λ _. untold 0 0) input out err names.now)
+        (K.end report.old) (K.end report.new)
+        (told S.end T.end file_port_end result) }
+
+    // Where no machine was started, the streams are those that were handed in.
+    ensures same { IsNone result.history
+        → (result.devices.input ≡ input) × (result.devices.out ≡ out)
+        × (result.devices.err ≡ err) }
+{
+    let prepared = prepare(alloc, false, words, name_count(names), shelf);
+    let ports = file_ports(files_for(files, &prepared), names, room);
+    let devices = connect(input, out, err, ports);
+    answer(alloc, words, prepared, devices, report, shelf)
 }
 
 /// Does what [`top`](crate::top) does, on ports over the files of these names. They are opened
@@ -86,6 +125,11 @@ pub fn top_on_files<
         (handed S.end T.end (λ _. untold 0 0) input out err names.now)
         (K.end report.old) (K.end report.new)
         (told S.end T.end file_port_end result) }
+
+    // Where no machine was started, the streams are those that were handed in.
+    ensures same { IsNone result.history
+        → (result.devices.input ≡ input) × (result.devices.out ≡ out)
+        × (result.devices.err ≡ err) }
 {
     let prepared = prepare(alloc, true, words, name_count(names), shelf);
     let ports = file_ports(files_for(files, &prepared), names, room);

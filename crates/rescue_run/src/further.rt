@@ -2,11 +2,12 @@
 ghost use Rattle.std.specs.Prelude.{◌≡◌, ◌≤◌, ◌<◌, ◌+◌, ◌^◌, [], ◌∷◌, IfErr, IfOk, OnOk, length, vec_capacity};
 ghost use Rattle.rescue_run.specs.Further.{device_files, port_names};
 ghost use Rattle.rescue_run.specs.ReadsFiles.{further_bytes, port_bytes, ReadsTo};
+ghost use Rattle.rescue_run.specs.Refusals.{wanting};
 ghost use Rattle.rescue_run.specs.Words.{further_of};
 ghost use Rattle.rescue_run.specs.declared.outcome.Which.TheVariants.{Device};
-ghost use Rattle.rescue_run.specs.declared.outcome.Outcome.TheVariants.{Memory};
 
 use crate::outcome::{Outcome, Which};
+use crate::refusal::Refusal;
 use edge_ports::Shelf;
 use guest_words::{Bytes, Name};
 use program_words::{PortName, PortNames};
@@ -36,7 +37,7 @@ fn load_one<F: Shelf>(
     which: Which,
     name: &Name,
     shelf: &mut F,
-) -> Result<Bytes, Outcome>
+) -> Result<Bytes, Refusal>
     ensures reads { ReadsTo (λ bytes. bytes ∷ []) ((which, name.now) ∷ []) (F.seen shelf.old)
         (F.seen shelf.new) result }
 {
@@ -52,7 +53,7 @@ fn load_port<F: Shelf>(
     number: u64,
     port: &PortName,
     shelf: &mut F,
-) -> Result<PortFile, Outcome>
+) -> Result<PortFile, Refusal>
     requires few { number + 1 < 2 ^ 64 }
     ensures reads { ReadsTo (λ file. file.input ∷ file.output ∷ [])
         ((Device number, port.now.input) ∷ (Device (number + 1), port.now.output) ∷ [])
@@ -69,14 +70,14 @@ fn load_port<F: Shelf>(
 }
 
 /// The room for the files of these ports. There is none for so many that no command line has them.
-pub fn room_for(alloc: Global, ports: &[PortName]) -> Result<Vec<PortFile>, Outcome>
+pub fn room_for(alloc: Global, ports: &[PortName]) -> Result<Vec<PortFile>, Refusal>
     ensures none { IfOk result (λ room. room.items ≡ []) }
     ensures room { IfOk result (λ room. length ports.now ≤ vec_capacity room) }
     ensures few { OnOk result (length ports.now < 2 ^ 32) }
-    ensures cause { IfErr result (λ outcome. outcome ≡ Memory) }
+    ensures cause { IfErr result (λ refusal. refusal ≡ wanting) }
 {
     if u32::try_from(ports.len()).is_err() {
-        return Err(Outcome::Memory);
+        return Err(Refusal::of(Outcome::Memory));
     }
     Ok(Vec::with_capacity(alloc, ports.len())?)
 }
@@ -87,7 +88,7 @@ fn load_ports<F: Shelf>(
     ports: &[PortName],
     room: Vec<PortFile>,
     shelf: &mut F,
-) -> Result<PortFiles, Outcome>
+) -> Result<PortFiles, Refusal>
     requires none { room.items ≡ [] }
     requires room { length ports.now ≤ vec_capacity room }
     requires few { length ports.now < 2 ^ 32 }
@@ -110,7 +111,7 @@ pub fn load_further<F: Shelf>(
     names: &FurtherNames,
     room: Vec<PortFile>,
     shelf: &mut F,
-) -> Result<Further, Outcome>
+) -> Result<Further, Refusal>
     requires none { room.items ≡ [] }
     requires room { length names.now.ports ≤ vec_capacity room }
     requires few { length names.now.ports < 2 ^ 32 }

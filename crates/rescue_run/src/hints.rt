@@ -1,5 +1,5 @@
 //! The lines behind that of a refusal: what was wrong, and what would be right.
-ghost use Rattle.std.specs.Prelude.{◌≡◌, IfOk, string_bytes};
+ghost use Rattle.std.specs.Prelude.{◌≡◌, [], IfOk, string_bytes, unwrap_or};
 ghost use Rattle.config_hints.specs.Shown.{quoted};
 ghost use Rattle.program_words.specs.Words.{texts};
 ghost use Rattle.rescue_run.specs.Hints.{hint_of, long_hint, refusal_text, sizes_text, unread_hint};
@@ -8,6 +8,7 @@ ghost use Rattle.rescue_run.specs.Names.{name_for};
 use crate::lines::line;
 use crate::names::name_of;
 use crate::outcome::{Outcome, Which};
+use crate::refusal::Refusal;
 use crate::shown::quoted;
 use edge_ports::Reason;
 use elf_hints::{elf_hint, sym_hint};
@@ -66,12 +67,24 @@ fn long_hint(
     Ok(format!(in alloc; "  {name} has {sizes}\n")?)
 }
 
-/// The lines behind that of an outcome, for these words.
-fn hint(alloc: Global, words: &[String], outcome: &Outcome) -> Result<Bytes, MemoryWant>
-    ensures ok { IfOk result (λ text. text ≡ hint_of (texts words.now) outcome.now) }
+/// A copy of lines, empty where there are none.
+fn copy_of(alloc: Global, lines: &Option<Bytes>) -> Result<Bytes, MemoryWant>
+    ensures ok { IfOk result (λ text. text ≡ unwrap_or lines.now []) }
 {
-    let text = match *outcome {
+    match lines {
+        Some(lines) => lines.copy(alloc),
+        None => Ok(Bytes::of(Vec::new(alloc))),
+    }
+}
+
+/// The lines behind that of a refusal of these words.
+fn hint(alloc: Global, words: &[String], refusal: &Refusal) -> Result<Bytes, MemoryWant>
+    ensures ok { IfOk result (λ text.
+        text ≡ hint_of (texts words.now) refusal.now.lines refusal.now.outcome) }
+{
+    let text = match refusal.outcome {
         Outcome::Words(_) => return explanation(alloc, words),
+        Outcome::Points { .. } => return copy_of(alloc, &refusal.lines),
         Outcome::Shelf { which, reason } => unread_hint(alloc, words, which, reason)?,
         Outcome::TooLong { which, length } => long_hint(
             alloc,
@@ -83,7 +96,6 @@ fn hint(alloc: Global, words: &[String], outcome: &Outcome) -> Result<Bytes, Mem
         Outcome::Elf { fault, .. } => String::from_str(alloc, elf_hint(fault))?,
         Outcome::Symbols { fault, .. } => String::from_str(alloc, sym_hint(fault))?,
         Outcome::PortCount { .. }
-        | Outcome::Points { .. }
         | Outcome::Report { .. }
         | Outcome::Save { .. }
         | Outcome::Ended(_)
@@ -98,12 +110,13 @@ fn hint(alloc: Global, words: &[String], outcome: &Outcome) -> Result<Bytes, Mem
     Ok(Bytes::of(text.into_bytes()))
 }
 
-/// The text of a refusal: its line, and the lines that explain it.
-pub fn refusal_text(alloc: Global, words: &[String], outcome: &Outcome) -> Result<Bytes, MemoryWant>
-    ensures ok { IfOk result (λ text. text ≡ refusal_text (texts words.now) outcome.now) }
+/// The text of a refusal of these words: its line, and the lines that explain it.
+pub fn refusal_text(alloc: Global, words: &[String], refusal: &Refusal) -> Result<Bytes, MemoryWant>
+    ensures ok { IfOk result (λ text.
+        text ≡ refusal_text (texts words.now) refusal.now.lines refusal.now.outcome) }
 {
-    let mut text = line(alloc, outcome)?.into_bytes();
-    let hint = hint(alloc, words, outcome)?;
+    let mut text = line(alloc, &refusal.outcome)?.into_bytes();
+    let hint = hint(alloc, words, refusal)?;
     text.extend_from_slice(hint.items())?;
     Ok(Bytes::of(text))
 }

@@ -17,6 +17,7 @@ mod names;
 mod outcome;
 mod prepare;
 mod put;
+mod refusal;
 mod run;
 mod save;
 mod setup;

@@ -15,7 +15,7 @@ ghost use Rattle.rescue_run.specs.Words.{load_setup, load_with};
 ghost use Rattle.trial_runs.specs.Subjects.{devices_with};
 
 use crate::loading::loaded_from;
-use crate::outcome::Outcome;
+use crate::refusal::Refusal;
 use crate::run::{Ran, run};
 use crate::setup::{Schedule, Setup};
 use crate::start::{Loaded, Start};
@@ -64,7 +64,7 @@ fn load_task(number: u64, input: Bytes, loaded: Loaded) -> LoadTask
 }
 
 /// The load of a number, ready to be run. It brings its own files, which are read as any others.
-pub fn prepare_load(alloc: Global, number: u64) -> Result<Task, Outcome>
+pub fn prepare_load(alloc: Global, number: u64) -> Result<Task, Refusal>
     requires least { 1 ≤ number }
     requires most { number ≤ LOADS }
     ensures value { IsOrMemory result (load_with number (loaded_from load_file points_file)) }
@@ -73,7 +73,7 @@ pub fn prepare_load(alloc: Global, number: u64) -> Result<Task, Outcome>
     let Made { elf, points, input } = make(alloc, number)?;
     match loaded_from(alloc, elf.items(), points.items()) {
         Ok(loaded) => Ok(Task::Load(load_task(number, input, loaded))),
-        Err(outcome) => Err(outcome),
+        Err(refusal) => Err(refusal),
     }
 }
 

@@ -12,6 +12,7 @@ use crate::further::{FurtherNames, load_further, room_for};
 use crate::load::prepare_load;
 use crate::loading::{load_files, load_symbols};
 use crate::outcome::Outcome;
+use crate::refusal::Refusal;
 use crate::setup::{Schedule, Setup};
 use crate::start::Start;
 use crate::task::{AuditTask, Task};
@@ -35,13 +36,13 @@ fn lacks_threads(threads: bool, words: &[String]) -> bool
     !threads && wants_threads(words)
 }
 
-/// What words come to that give no command.
-fn refusal(fault: WordsFault) -> Outcome
+/// Why nothing is done for words that give no command.
+fn refusal(fault: WordsFault) -> Refusal
     ensures value { result ≡ of_words_fault fault }
 {
     match fault {
-        WordsFault::Words(fault) => Outcome::Words(fault),
-        WordsFault::Memory => Outcome::Memory,
+        WordsFault::Words(fault) => Refusal::of(Outcome::Words(fault)),
+        WordsFault::Memory => Refusal::of(Outcome::Memory),
     }
 }
 
@@ -67,7 +68,7 @@ fn prepare_run<F: Shelf>(
     setup: Setup,
     save: Option<Name>,
     shelf: &mut F,
-) -> Result<Task, Outcome>
+) -> Result<Task, Refusal>
     requires within { IsWithin setup }
     ensures starts { StartsFiles files setup save (F.seen shelf.old) (F.seen shelf.new) result }
     ensures can { IfOk result (CanStart (is_threaded setup.schedule)) }
@@ -82,7 +83,7 @@ fn prepare_run<F: Shelf>(
 }
 
 /// The list of the symbols of a program.
-fn prepare_list<F: Shelf>(alloc: Global, program: Name, shelf: &mut F) -> Result<Task, Outcome>
+fn prepare_list<F: Shelf>(alloc: Global, program: Name, shelf: &mut F) -> Result<Task, Refusal>
     ensures lists { ListsFile program (F.seen shelf.old) (F.seen shelf.new) result }
     ensures can { IfOk result (CanStart false) }
     ensures follows { Follows (F.seen shelf.old) (F.seen shelf.new) }
@@ -97,7 +98,7 @@ fn prepare_audit<F: Shelf>(
     files: Files,
     names: &FurtherNames,
     shelf: &mut F,
-) -> Result<Task, Outcome>
+) -> Result<Task, Refusal>
     ensures audits { AuditsFiles files names.now (F.seen shelf.old) (F.seen shelf.new) result }
     ensures can { IfOk result (CanStart false) }
     ensures follows { Follows (F.seen shelf.old) (F.seen shelf.new) }
@@ -117,7 +118,7 @@ fn prepare_command<F: Shelf>(
     alloc: Global,
     command: Command,
     shelf: &mut F,
-) -> Result<Task, Outcome>
+) -> Result<Task, Refusal>
     requires range { IsInRange command }
     ensures prepares { PreparesCommand command (F.seen shelf.old) (F.seen shelf.new) result }
     ensures can { IfOk result (CanStart (runs_threads command)) }
@@ -191,8 +192,8 @@ fn prepare_command<F: Shelf>(
             };
             prepare_try(alloc, setup, &program, &input, shelf)
         }
-        Command::Help => Err(Outcome::Words(WordFault::UnknownCommand)),
-        Command::Version => Err(Outcome::Words(WordFault::UnknownCommand)),
+        Command::Help => Err(Refusal::of(Outcome::Words(WordFault::UnknownCommand))),
+        Command::Version => Err(Refusal::of(Outcome::Words(WordFault::UnknownCommand))),
     }
 }
 
@@ -202,7 +203,7 @@ fn prepare_counted<F: Shelf>(
     command: Command,
     handed: u64,
     shelf: &mut F,
-) -> Result<Task, Outcome>
+) -> Result<Task, Refusal>
     requires range { IsInRange command }
     ensures prepares { PreparesCounted command handed (F.seen shelf.old) (F.seen shelf.new)
         result }
@@ -213,7 +214,7 @@ fn prepare_counted<F: Shelf>(
     if named == handed {
         prepare_command(alloc, command, shelf)
     } else {
-        Err(Outcome::PortCount { named, handed })
+        Err(Refusal::of(Outcome::PortCount { named, handed }))
     }
 }
 
@@ -226,14 +227,14 @@ pub fn prepare<F: Shelf>(
     words: &[String],
     handed: u64,
     shelf: &mut F,
-) -> Result<Task, Outcome>
+) -> Result<Task, Refusal>
     ensures prepares { Prepares threads (texts words.now) handed (F.seen shelf.old)
         (F.seen shelf.new) result }
     ensures can { IfOk result (CanStart threads) }
     ensures follows { Follows (F.seen shelf.old) (F.seen shelf.new) }
 {
     if lacks_threads(threads, words) {
-        return Err(Outcome::Words(WordFault::Threads));
+        return Err(Refusal::of(Outcome::Words(WordFault::Threads)));
     }
     match read_words(alloc, words) {
         Ok(command) => prepare_counted(alloc, command, handed, shelf),

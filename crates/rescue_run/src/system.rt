@@ -1,13 +1,13 @@
 //! The program over the files and the streams of the system.
-use crate::file_ports::top_on_files;
+use crate::file_ports::{alone_on_files, top_on_files};
 use crate::outcome::Outcome;
 use crate::put::put_line;
 use crate::shown::quoted;
 use edge_ports::{FileShelf, Reason, Sink, Standard, StdSink, StdSource};
 use guest_words::{MemoryWant, Name};
 use program_words::{
-    Command, PortNames, WordFault, WordsFault, help_text, port_names, read_words, report_file,
-    report_to_out, version_text,
+    Command, PortNames, WordFault, WordsFault, help_text, needs_threads, port_names, read_words,
+    report_file, report_to_out, version_text,
 };
 use std::alloc::Global;
 use std::fs::File;
@@ -169,19 +169,21 @@ fn run_words<H: Threads + Wait + Sync, W: Write + Drop>(
     let Ok(ports) = Vec::with_capacity(rt.alloc(), names.items().len()) else {
         return refuse(rt, report, Outcome::Memory);
     };
-    let answer = top_on_files(
-        host,
-        rt.alloc(),
-        words,
-        &mut FileShelf::new(*rt),
-        StdSource::new(rt.stdin()),
-        StdSink::new(Standard::Out(rt.stdout())),
-        StdSink::new(Standard::Err(rt.stderr())),
-        rt,
-        names.items(),
-        ports,
-        &mut StdSink::new(report),
-        &OpenDoor,
-    );
+    let shelf = &mut FileShelf::new(*rt);
+    let input = StdSource::new(rt.stdin());
+    let out = StdSink::new(Standard::Out(rt.stdout()));
+    let err = StdSink::new(Standard::Err(rt.stderr()));
+    let report = &mut StdSink::new(report);
+    let (alloc, names) = (rt.alloc(), names.items());
+    let answer = if needs_threads(words) {
+        let door = &OpenDoor;
+        top_on_files(
+            host, alloc, words, shelf, input, out, err, rt, names, ports, report, door,
+        )
+    } else {
+        alone_on_files(
+            alloc, words, shelf, input, out, err, rt, names, ports, report,
+        )
+    };
     ExitCode::from(answer.status)
 }

@@ -10,10 +10,11 @@ ghost use Rattle.rescue_run.specs.Top.{handed, sides, told, StaySame};
 
 use crate::answer::Answer;
 use crate::answers::{
-    answer_audit, answer_list, answer_load, answer_refused, answer_run, answer_run_on_threads, answer_try,
+    answer_audit, answer_list, answer_load, answer_refused, answer_run, answer_run_on_threads,
+    answer_try,
 };
-use crate::outcome::Outcome;
 use crate::prepare::prepare;
+use crate::refusal::Refusal;
 use crate::task::Task;
 use edge_ports::{Devices, Port, Shelf, Sink, Source};
 use std::alloc::Global;
@@ -46,10 +47,10 @@ pub fn connect<S: Source, T: Sink, P: Port>(
 }
 
 /// Does what was prepared, on one thread, or puts why nothing is done.
-fn answer<F: Shelf, S: Source, T: Sink, P: Port, R: Sink>(
+pub fn answer<F: Shelf, S: Source, T: Sink, P: Port, R: Sink>(
     alloc: Global,
     words: &[String],
-    prepared: Result<Task, Outcome>,
+    prepared: Result<Task, Refusal>,
     devices: Devices<S, T, P>,
     report: &mut R,
     shelf: &mut F,
@@ -68,7 +69,7 @@ fn answer<F: Shelf, S: Source, T: Sink, P: Port, R: Sink>(
         Ok(Task::Load(load)) => answer_load(alloc, load, devices, report),
         Ok(Task::Audit(task)) => answer_audit(alloc, &task, devices, report),
         Ok(Task::Try(task)) => answer_try(alloc, &task, devices, report),
-        Err(outcome) => answer_refused(alloc, words, outcome, devices, report),
+        Err(refusal) => answer_refused(alloc, words, &refusal, devices, report),
     }
 }
 
@@ -85,7 +86,7 @@ pub fn answer_on_threads<
     rt: &H,
     alloc: Global,
     words: &[String],
-    prepared: Result<Task, Outcome>,
+    prepared: Result<Task, Refusal>,
     devices: Devices<S, T, P>,
     report: &mut R,
     shelf: &mut F,
@@ -107,7 +108,7 @@ pub fn answer_on_threads<
         Ok(Task::Load(load)) => answer_load(alloc, load, devices, report),
         Ok(Task::Audit(task)) => answer_audit(alloc, &task, devices, report),
         Ok(Task::Try(task)) => answer_try(alloc, &task, devices, report),
-        Err(outcome) => answer_refused(alloc, words, outcome, devices, report),
+        Err(refusal) => answer_refused(alloc, words, &refusal, devices, report),
     }
 }
 

@@ -17,6 +17,7 @@ use crate::listing::Listing;
 use crate::loading::{accept, check_symbols};
 use crate::outcome::{Outcome, Which};
 use crate::put::{put_memory, put_own};
+use crate::refusal::Refusal;
 use crate::task::{Task, TryTask};
 use edge_ports::{Shelf, Sink};
 use elf_symbols::Symbols;
@@ -39,7 +40,7 @@ pub struct TrySetup {
 }
 
 /// The image of a program that breaks no rule, and whose symbols break none.
-fn listed_image(alloc: Global, program: &[u8]) -> Result<Image, Outcome>
+fn listed_image(alloc: Global, program: &[u8]) -> Result<Image, Refusal>
     ensures ok { IfOk result (λ image. image ≡ image_of program.now) }
     ensures list { IfOk result (λ image. IsLoadList image.loads) }
     ensures kept { OnOk result (IsNamed program.now) }
@@ -48,9 +49,9 @@ fn listed_image(alloc: Global, program: &[u8]) -> Result<Image, Outcome>
     match accept(alloc, program) {
         Ok(image) => match check_symbols(program) {
             Ok(()) => Ok(image),
-            Err(outcome) => Err(outcome),
+            Err(refusal) => Err(refusal),
         },
-        Err(outcome) => Err(outcome),
+        Err(refusal) => Err(refusal),
     }
 }
 
@@ -86,7 +87,7 @@ fn prepare_trials<F: Shelf>(
     program: Bytes,
     input: &Name,
     shelf: &mut F,
-) -> Result<Task, Outcome>
+) -> Result<Task, Refusal>
     requires set { IsSetUp setup }
     ensures tries { TriesProgram setup program input.now (F.seen shelf.old) (F.seen shelf.new)
         result }
@@ -99,7 +100,7 @@ fn prepare_trials<F: Shelf>(
             Ok(input) => Ok(Task::Try(try_task(setup, image, program, input))),
             Err(fault) => Err(which.refusal(fault)),
         },
-        Err(outcome) => Err(outcome),
+        Err(refusal) => Err(refusal),
     }
 }
 
@@ -110,7 +111,7 @@ pub fn prepare_try<F: Shelf>(
     program: &Name,
     input: &Name,
     shelf: &mut F,
-) -> Result<Task, Outcome>
+) -> Result<Task, Refusal>
     requires set { IsSetUp setup }
     ensures tries { TriesFiles setup program.now input.now (F.seen shelf.old) (F.seen shelf.new)
         result }

@@ -95,8 +95,9 @@ fn file_cut_short(rt: HostRuntime) -> Result<(), Fail> {
     Ok(())
 }
 
-/// Whole texts, on the smallest program `p`, an empty file `c` and one of 1,048,577 bytes `long`.
-const WHOLE: [(&[&str], &str); 8] = [
+/// Whole texts, on the smallest program `p`, a rescue file `f` with an entry outside of it, an empty
+/// file `c` and one of 1,048,577 bytes `long`.
+const WHOLE: [(&[&str], &str); 9] = [
     (
         &[],
         "refused: words no-command
@@ -128,6 +129,13 @@ const WHOLE: [(&[&str], &str); 8] = [
 ",
     ),
     (
+        &["alone", "--points", "f", "p"],
+        "refused: points outside-text at 0
+  point 0: 0x20000 lies outside the executable ranges
+  the executable ranges are 0x10000 to 0x1000c
+",
+    ),
+    (
         &["audit", "h", "p", "c", "c", "c"],
         "refused: history unreadable\n  'h': no such file\n",
     ),
@@ -145,6 +153,10 @@ fn whole_texts(rt: HostRuntime) -> Result<(), Fail> {
         let long = vec![in alloc; 0u8; 1_048_577]?;
         let files = vec![in alloc;
             ("p", image(alloc, &SMALLEST, None)?),
+            (
+                "f",
+                b"[[point]]\nentry = 131072\nreturns = 0\n".to_vec(alloc)?
+            ),
             ("c", Vec::new(alloc)),
             ("long", long),
         ]?;

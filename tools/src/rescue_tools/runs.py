@@ -112,7 +112,8 @@ def outcome_of(output: bytes, errors: bytes) -> Outcome:
     found = REPORT.search(errors, max(errors.rfind(b"rescue-report 1\n"), 0))
     if found is None:
         lines = errors.decode("utf-8", "replace").strip().splitlines()
+        refused = [line for line in lines if line.startswith("refused: ")]
         last = lines[-1] if lines else "no report"
-        return Outcome(last if last.startswith("refused") else f"refused: {last}", output)
+        return Outcome(refused[-1] if refused else f"refused: {last}", output)
     staying = len(STAYING.findall(found.group(4)))
     return Outcome(found.group(6).decode(), output, int(found.group(3)), staying)

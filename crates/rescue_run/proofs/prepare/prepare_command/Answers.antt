@@ -1,4 +1,4 @@
-use Rattle.std.proofs.Common.{ap, sym, subst, rules, SFits}
+use Rattle.std.proofs.Common.{◌∙◌, Err, ap, sym, subst, rules, SFits}
 use Rattle.std.specs.Prelude.{ℤ}
 use mir.Syntax.{w64}
 use Rattle.std.proofs.lemmas.Int.{to_z-of_z}
@@ -10,6 +10,7 @@ use Rattle.rescue_run.specs.declared.outcome.Outcome.TheVariants.{Words}
 use Rattle.rescue_run.specs.Trying.{TriesFiles}
 use Rattle.rescue_run.specs.Words.{loads_by, task_by}
 use Rattle.rescue_run.proofs.prepare.prepare_command.Goals as goal
+use Rattle.rescue_run.specs.Refusals.{plain}
 
 pub returns-in-List-clause-prepares : goal.returns-in-List-clause-prepares
 returns-in-List-clause-prepares g c =
@@ -45,10 +46,10 @@ returns-in-Try-clause-prepares g c =
 
 pub returns-in-Help-clause-prepares : goal.returns-in-Help-clause-prepares
 returns-in-Help-clause-prepares g c =
-    prepares_unknown c.args.command (g.F.Shelf.seen c.args.shelf.now) (Words UnknownCommand)
-    (ap (λ k. task_by k no_answers) c.in-Help.is) (ap (λ k. loads_by k no_answers) c.in-Help.is)
+    prepares_unknown c.args.command (g.F.Shelf.seen c.args.shelf.now) c.of.result
+    (ap (λ k. task_by k no_answers) c.in-Help.is ∙ ap Err (sym c.of.ensures.value)) (ap (λ k. loads_by k no_answers) c.in-Help.is)
 
 pub returns-in-Version-clause-prepares : goal.returns-in-Version-clause-prepares
 returns-in-Version-clause-prepares g c =
-    prepares_unknown c.args.command (g.F.Shelf.seen c.args.shelf.now) (Words UnknownCommand)
-    (ap (λ k. task_by k no_answers) c.in-Version.is) (ap (λ k. loads_by k no_answers) c.in-Version.is)
+    prepares_unknown c.args.command (g.F.Shelf.seen c.args.shelf.now) c.of-in-Version.result
+    (ap (λ k. task_by k no_answers) c.in-Version.is ∙ ap Err (sym c.of-in-Version.ensures.value)) (ap (λ k. loads_by k no_answers) c.in-Version.is)
