@@ -4,7 +4,7 @@
     tests/campaign.py RESCUE [--seed N] [--first N] [--cases N]
 
 Checks of each case what needs no model: the program ends, by a status of the manual's table, with
-one line or with a report that adds up; the output, the report and the files of ports are the same
+a refusal or with a report that adds up; the output, the report and the files of ports are the same
 bytes at a second run, with one hart also under another seed; and `run`, where it is built, ends so
 too, with one hart exactly as `alone`. Want of memory is a finding too, as no case needs much. A
 case is made of the seed and its number alone: `--first N --cases 1` makes it again. Files of a
