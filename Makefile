@@ -56,6 +56,7 @@ check: program
 test: program
 	tests/gate_guests.py
 	tests/tables.py $(PROGRAM)
+	tests/tries.py $(PROGRAM)
 	tests/streams.py $(PROGRAM)
 	tests/histories.py $(PROGRAM) --changes 10
 	tests/threads.py $(PROGRAM) --runs 20
