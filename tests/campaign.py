@@ -6,9 +6,11 @@
 Checks of each case what needs no model: the program ends, by a status of the manual's table, with
 a refusal or with a report that adds up; the output, the report and the files of ports are the same
 bytes at a second run, with one hart also under another seed; and `run`, where it is built, ends so
-too, with one hart exactly as `alone`. Want of memory is a finding too, as no case needs much. A
-case is made of the seed and its number alone: `--first N --cases 1` makes it again. Files of a
-finding stay in a folder that is named. Ends with 1 if there are any.
+too, with one hart exactly as `alone`. Of every third guest the history is saved and audited, as it
+is and changed, and the functions on the way to its fault are tried, each also by hand. Want of
+memory is a finding too, as no case needs much. A case is made of the seed and its number alone:
+`--first N --cases 1` makes it again. Files of a finding stay in a folder that is named. Ends with 1
+if there are any.
 """
 import os
 import re
@@ -16,6 +18,7 @@ import shutil
 import tempfile
 from random import Random
 
+import further_cases
 import outcome
 from outcome import Expected
 from random_files import broken_elf, broken_points, random_words
@@ -120,7 +123,17 @@ class Runs:
             findings.append("a second run differs")
         if alone and self.threads:
             findings += self.threaded(["run", *words[1:]], first)
+        if self.case.kind == "guest" and self.case.random.random() < 1 / 3:
+            findings += self.further(seed)
         return findings
+
+    def further(self, seed):
+        """What is wrong with the audits and the trials of a guest, which has no ports here."""
+        case = self.case
+        limits = [f"--seed={seed}", f"--harts={case.harts}", f"--budget={case.budget}"]
+        points = ["--points=points.toml"] if case.random.random() < 0.8 else []
+        found = further_cases.audits(self.rescue, case.random, limits, points)
+        return found + further_cases.trials(self.rescue, case.random, limits)
 
     def threaded(self, words, first):
         """What is wrong with `run` on the same files."""
