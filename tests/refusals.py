@@ -15,6 +15,7 @@ from dataclasses import dataclass, field
 
 import outcome
 import worked_guests as guests
+from elf_files import Symbol
 from workplace import parser, workplace
 
 # The slots of a run, each with a worker; the last needs no thread of its own.
@@ -31,6 +32,7 @@ class Run:
     ports: list = field(default_factory=list)
     told_out: bool = False
     any_order: bool = False
+    saves: bool = False
 
     def written(self):
         """Writes the files anew, so that each run has the same."""
@@ -55,9 +57,22 @@ def ending(came):
     return came.status, came.err.splitlines()[-1:]
 
 
+def with_symbols():
+    """The guest of two nested calls, with the names of its functions."""
+    elf = guests.nested()[0]
+    elf.symbols = [Symbol(b"outer", 0x10018), Symbol(b"inner", 0x10028)]
+    return {"nested": elf.bytes()}
+
+
+# of the smallest guest: 8 harts, 5,000,000 steps, two acts and the exit with 7
+HISTORY = (b"rescueh1\x08" + bytes(8) + (5000000).to_bytes(8, "little")
+           + (2).to_bytes(8, "little") + b"\x01\x00\x02\0\0\0\x05\0\0\x07")
+
+
 def runs():
     """The runs whose allocations are refused."""
     server, points = guests.server()
+    smallest = {"smallest": guests.smallest().bytes()}
     ports = {"a": b"ok\n", "c": b"x\n", "server": server.bytes(), "server.toml": points.encode()}
     made = [
         Run("server", ["alone", "--points", "server.toml", "server", "a:b", "c:d"], ports,
@@ -77,6 +92,11 @@ def runs():
         files = {"names": guests.two_names().bytes(), "names.toml": text.encode()}
         made.append(Run(f"rescue file {number}", ["alone", "--points", "names.toml", "names"],
                         files))
+    made += [Run("a word too many", ["alone", "--budget=20M", "server"], ports),
+             Run("try", ["try", "nested", "/dev/null"], with_symbols(), told_out=True),
+             Run("saved", ["alone", "--save=kept", "smallest"], smallest, ["kept"], saves=True),
+             Run("audit", ["audit", "kept", "smallest", *["/dev/null"] * 3],
+                 {**smallest, "kept": HISTORY}, told_out=True)]
     return [*made, Run("load", ["load", "1"], {}, told_out=True)]
 
 
@@ -111,6 +131,8 @@ class Refusals:
         if came.status != 75:
             return f"status {came.status}, {(came.err or came.out)[-60:]!r}"
         told, silent = (came.out, came.err) if run.told_out else (came.err, came.out)
+        if run.saves:
+            told = told.removeprefix(whole[0].err)  # the report may stand before
         if run.told_out and not told:
             told = silent  # memory was wanting for the words
         if told != b"refused: memory\n":
