@@ -64,6 +64,8 @@ test: program
 	tests/campaign.py $(PROGRAM) --cases 1000
 
 test-tools:
+	@$(PYTHON) -c "import pytest, mypy" || \
+	    { echo "missing: python3-pytest or mypy (docs/TOOLS.md)" >&2; exit 1; }
 	cd tools && $(PYTHON) -m pytest
 	cd tools && $(PYTHON) -m mypy src tests
 	cd tools && if command -v ruff > /dev/null; then ruff check .; fi

@@ -1,8 +1,8 @@
 #!/usr/bin/env python3
-"""Stands for `rescue alone` and `rescue try` in the tests of the sweep: it takes the same words, and
-writes a report, or trials, as the program does. Its guest adds numbers up, a request a line; `bad` is a fault, `leak` one that
-leaves something in the sum, `say` one behind a write, `wait` is stuck, `spin` spends the budget,
-`sleep` takes long."""
+"""Stands for `rescue alone` and `rescue try` in the tests of the sweep: it takes the same words,
+and writes a report, or trials, as the program does. Its guest adds numbers up, a request a line;
+`bad` is a fault, `leak` one that leaves something in the sum, `say` one behind a write, `wait` is
+stuck, `spin` spends the budget, `sleep` takes long."""
 
 import sys
 import time
